@@ -1,0 +1,6 @@
+pub mod Lists
+pub mod Digits
+pub mod Spans
+pub mod WellFormed
+pub mod Inverse
+pub mod Reread

@@ -1,0 +1,4 @@
+mod Orders
+mod Misuses
+mod Refusals
+mod Collected
