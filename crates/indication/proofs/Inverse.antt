@@ -19,7 +19,7 @@ use Rattle.indication.specs.declared.header.Kind.{Kind}
 use Rattle.indication.specs.declared.header.Kind.the-variants as kind
 use Rattle.indication.specs.Numbers.{value, bigEndian}
 use Rattle.indication.specs.Codes.{kindCode, changeCode, controlCode, usageCode, kindOf, changeOf, controlOf, usageOf}
-use Rattle.indication.specs.Format.{byte, part, currentCount, nextCount, entryCount, fullLength, chargeOffset, termOffset, entryAt, decoded, chargeBytes, termBytes, headerBytes, entries, encoded}
+use Rattle.indication.specs.Format.{byte, part, currentCount, nextCount, entryCount, fullLength, chargeOffset, termOffset, entryAt, headerOf, decoded, chargeBytes, termBytes, headerBytes, entries, encoded}
 use Rattle.indication.specs.Rules.{Accepted}
 use Rattle.indication.proofs.Digits.{Bytes, value-lt, bigEndian-value}
 use Rattle.indication.proofs.Spans.{counting-append, part-append, part-all, joined-parts, joined-map}
@@ -93,7 +93,7 @@ module _ (b : List ℕ) (bytes : (i : ℕ) → byte b i < 256) where
         let two = next-is in
         cc
 
-    header-is : headerBytes (decoded b) ≡ part b 0 24
+    header-is : headerBytes (length (decoded b .current)) (length (decoded b .next)) (headerOf b) ≡ part b 0 24
     header-is =
         let one : length (decoded b .current) ≡ byte b 0 = ap length current-is ∙ length-map-counting (entryAt b) 0 (currentCount b) in
         let two : length (decoded b .next) ≡ byte b 1 = ap length next-is ∙ length-map-counting (entryAt b) (currentCount b) (nextCount b) in
@@ -125,5 +125,5 @@ module _ (b : List ℕ) (bytes : (i : ℕ) → byte b i < 256) where
         let n : ℕ = entryCount b in
         let all : length b ≡ 24 + (6 * n + 3 * n) = omega (arith, formed.long taken b ok) in
         let whole : b ≡ part b 0 (24 + (6 * n + 3 * n)) = sym (part-all b) ∙ ap (part b 0) all in
-        three (headerBytes (decoded b)) _ _ _ _ _ b header-is charges-are terms-are
+        three (headerBytes (length (decoded b .current)) (length (decoded b .next)) (headerOf b)) _ _ _ _ _ b header-is charges-are terms-are
         (whole ∙ part-append b 0 24 (6 * n + 3 * n) ∙ ap (λ rest. part b 0 24 ++ rest) (part-append b 24 (6 * n) (3 * n)))

@@ -26,8 +26,8 @@ use Rattle.indication.specs.declared.entry.Usage.the-variants as usage
 use Rattle.indication.specs.declared.entry.Entry.{Entry}
 use Rattle.indication.specs.Numbers.{value, bigEndian}
 use Rattle.indication.specs.Codes.{kindCode, changeCode, controlCode, usageCode, kindOf, changeOf, controlOf, usageOf}
-use Rattle.indication.specs.Format.{byte, part, currentCount, nextCount, entryCount, chargeOffset, termOffset, headerOf, entryAt, Content, decoded, chargeBytes, termBytes, headerBytes, entries, encoded}
-use Rattle.indication.specs.Fits.{Fits, EntryFits}
+use Rattle.indication.specs.Format.{byte, part, currentCount, nextCount, entryCount, chargeOffset, termOffset, headerOf, entryAt, Content, decoded, chargeBytes, termBytes, firstEight, headerBytes, entries, encoded}
+use Rattle.indication.specs.Fits.{Fits, ChargeFits, TermFits}
 use Rattle.indication.proofs.Digits.{length-bigEndian, value-bigEndian}
 use Rattle.indication.proofs.Spans.{part-append, part-at, part-joined, length-joined}
 
@@ -80,10 +80,10 @@ same-entry e size step use-of duration p q r t = rw (p, q, r, t)
 
 -- an entry, from the bytes of its charge and its term
 entry-back :
-  (b : List ℕ) (i : ℕ) (e : Entry) → EntryFits e
+  (b : List ℕ) (i : ℕ) (e : Entry) → ChargeFits e → TermFits e
   → part b (chargeOffset i) 6 ≡ chargeBytes e → part b (termOffset b i) 3 ≡ termBytes e
   → entryAt b i ≡ e
-entry-back b i e fits c t =
+entry-back b i e c-fits t-fits c t =
     let cut = part-append b (chargeOffset i) 4 2 in
     let two : (part b (chargeOffset i) 4 ≡ bigEndian 4 (e .charge .size)) × (part b (chargeOffset i + 4) 2 ≡ bigEndian 2 (ofZ w16 (e .charge .step))) =
       append-same (part b (chargeOffset i) 4) (bigEndian 4 (e .charge .size)) _ _ refl (sym cut ∙ c) in
@@ -91,10 +91,10 @@ entry-back b i e fits c t =
     let use-is : usageOf (byte b (termOffset b i)) ≡ e .term .usage = ap usageOf use-byte ∙ usage-of (e .term .usage) in
     let seconds : part b (termOffset b i + 1) 2 ≡ bigEndian 2 (e .term .duration) = cc in
     same-entry e _ _ _ _
-    (ap value (two .0) ∙ value-back 4 (e .charge .size) (fits .size))
-    (ap (toZ w16) (ap value (two .1) ∙ value-back 2 (ofZ w16 (e .charge .step)) (bits-lt (e .charge .step) (fits .step))) ∙ toZ-ofZ w16 (e .charge .step) (fits .step))
+    (ap value (two .0) ∙ value-back 4 (e .charge .size) (c-fits .0))
+    (ap (toZ w16) (ap value (two .1) ∙ value-back 2 (ofZ w16 (e .charge .step)) (bits-lt (e .charge .step) (c-fits .1))) ∙ toZ-ofZ w16 (e .charge .step) (c-fits .1))
     use-is
-    (ap value seconds ∙ value-back 2 (e .term .duration) (fits .duration))
+    (ap value seconds ∙ value-back 2 (e .term .duration) t-fits)
 
 -- a header, from its fields
 same-header :
@@ -129,49 +129,41 @@ at-reference p l n f r = simp append-assoc
 
 module _ (c : Content) (fits : Fits c) where
 
-  header-long : length (headerBytes c) ≡ 24
-  header-long = simp length-append (omega (arith, fits .letters))
+  -- the header
+  abbrev head : List ℕ
+  head = headerBytes (length (c .current)) (length (c .next)) (c .header)
 
-  -- the first eight bytes of the header, and what follows its fields
-  first-eight : List ℕ
-  first-eight =
-      length (c .current)
-      ∷ (length (c .next)
-      ∷ (kindCode (c .header .kind)
-      ∷ (changeCode (c .header .change)
-      ∷ (controlCode (c .header .«current_control»)
-      ∷ (controlCode (c .header .«next_control»)
-      ∷ (c .header .quarter
-      ∷ (c .header .mark .kind
-      ∷ [])))))))
+  header-long : length head ≡ 24
+  header-long = simp length-append (omega (arith, fits .header .letters))
 
-  rest : List ℕ
+  -- its first eight bytes, and what follows it
+  abbrev front : List ℕ
+  front = firstEight (length (c .current)) (length (c .next)) (c .header)
+
+  abbrev rest : List ℕ
   rest = joined chargeBytes (entries c) ++ joined termBytes (entries c)
 
   letters-back : part (encoded c) 8 3 ≡ c .header .mark .letters
-  unfolding first-eight rest
   letters-back =
       let ls : List ℕ = c .header .mark .letters in
-      ap (λ b. part b 8 3) (at-letters first-eight ls (bigEndian 8 (c .header .network)) (bigEndian 4 (c .header .reference)) rest)
-      ∙ part-at first-eight ls _ 8 3 refl (fits .letters)
+      ap (λ b. part b 8 3) (at-letters front ls (bigEndian 8 (c .header .network)) (bigEndian 4 (c .header .reference)) rest)
+      ∙ part-at front ls _ 8 3 refl (fits .header .letters)
 
   network-back : value (part (encoded c) 12 8) ≡ c .header .network
-  unfolding first-eight rest
   network-back =
       let ls : List ℕ = c .header .mark .letters in
-      ap (λ b. value (part b 12 8)) (at-network first-eight ls (bigEndian 8 (c .header .network)) (bigEndian 4 (c .header .reference)) rest)
-      ∙ ap value (part-at (first-eight ++ (ls ++ (0 ∷ []))) (bigEndian 8 (c .header .network)) (bigEndian 4 (c .header .reference) ++ rest) 12 8
-        (omega (arith, length-append ls (0 ∷ []), fits .letters)) refl)
-      ∙ value-back 8 (c .header .network) (fits .network)
+      ap (λ b. value (part b 12 8)) (at-network front ls (bigEndian 8 (c .header .network)) (bigEndian 4 (c .header .reference)) rest)
+      ∙ ap value (part-at (front ++ (ls ++ (0 ∷ []))) (bigEndian 8 (c .header .network)) (bigEndian 4 (c .header .reference) ++ rest) 12 8
+        (omega (arith, length-append ls (0 ∷ []), fits .header .letters)) refl)
+      ∙ value-back 8 (c .header .network) (fits .header .network)
 
   reference-back : value (part (encoded c) 20 4) ≡ c .header .reference
-  unfolding first-eight rest
   reference-back =
       let ls : List ℕ = c .header .mark .letters in
-      ap (λ b. value (part b 20 4)) (at-reference first-eight ls (bigEndian 8 (c .header .network)) (bigEndian 4 (c .header .reference)) rest)
-      ∙ ap value (part-at (first-eight ++ (ls ++ (0 ∷ bigEndian 8 (c .header .network)))) (bigEndian 4 (c .header .reference)) rest 20 4
-        (omega (arith, length-append ls (0 ∷ bigEndian 8 (c .header .network)), fits .letters)) refl)
-      ∙ value-back 4 (c .header .reference) (fits .reference)
+      ap (λ b. value (part b 20 4)) (at-reference front ls (bigEndian 8 (c .header .network)) (bigEndian 4 (c .header .reference)) rest)
+      ∙ ap value (part-at (front ++ (ls ++ (0 ∷ bigEndian 8 (c .header .network)))) (bigEndian 4 (c .header .reference)) rest 20 4
+        (omega (arith, length-append ls (0 ∷ bigEndian 8 (c .header .network)), fits .header .letters)) refl)
+      ∙ value-back 4 (c .header .reference) (fits .header .reference)
 
   header-back : headerOf (encoded c) ≡ c .header
   header-back =
@@ -183,15 +175,15 @@ module _ (c : Content) (fits : Fits c) where
   entry-at i d h =
       let es : List Entry = entries c in
       let count : length es ≡ entryCount (encoded c) = length-append (c .current) (c .next) in
-      let behind : encoded c ≡ (headerBytes c ++ joined chargeBytes es) ++ (joined termBytes es ++ []) =
-        sym (append-assoc (headerBytes c) (joined chargeBytes es) (joined termBytes es))
-        ∙ ap (λ t. (headerBytes c ++ joined chargeBytes es) ++ t) (sym (append-nil (joined termBytes es))) in
-      let at-term : length (headerBytes c ++ joined chargeBytes es) + 3 * i ≡ termOffset (encoded c) i =
-        omega (arith, length-append (headerBytes c) (joined chargeBytes es), header-long, length-joined chargeBytes 6 (λ e. refl) es, count) in
-      entry-back (encoded c) i (getD es i d) (all-getD EntryFits es i d h (fits .entries-fit))
-      (part-joined chargeBytes 6 (λ e. refl) (headerBytes c) (joined termBytes es) es i (chargeOffset i) d h (ap (λ n. n + 6 * i) header-long))
+      let behind : encoded c ≡ (head ++ joined chargeBytes es) ++ (joined termBytes es ++ []) =
+        sym (append-assoc (head) (joined chargeBytes es) (joined termBytes es))
+        ∙ ap (λ t. (head ++ joined chargeBytes es) ++ t) (sym (append-nil (joined termBytes es))) in
+      let at-term : length (head ++ joined chargeBytes es) + 3 * i ≡ termOffset (encoded c) i =
+        omega (arith, length-append (head) (joined chargeBytes es), header-long, length-joined chargeBytes 6 (λ e. refl) es, count) in
+      entry-back (encoded c) i (getD es i d) (all-getD ChargeFits es i d h (fits .charges)) (all-getD TermFits es i d h (fits .terms))
+      (part-joined chargeBytes 6 (λ e. refl) (head) (joined termBytes es) es i (chargeOffset i) d h (ap (λ n. n + 6 * i) header-long))
       (ap (λ b. part b (termOffset (encoded c) i) 3) behind
-      ∙ part-joined termBytes 3 (λ e. refl) (headerBytes c ++ joined chargeBytes es) [] es i (termOffset (encoded c) i) d h at-term)
+      ∙ part-joined termBytes 3 (λ e. refl) (head ++ joined chargeBytes es) [] es i (termOffset (encoded c) i) d h at-term)
 
   current-back : map (entryAt (encoded c)) (counting 0 (length (c .current))) ≡ c .current
   current-back =

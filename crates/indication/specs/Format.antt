@@ -102,23 +102,27 @@ chargeBytes e = bigEndian 4 (e .charge .size) ++ bigEndian 2 (ofZ w16 (e .charge
 abbrev pub termBytes : Entry → List ℕ
 termBytes e = usageCode (e .term .usage) ∷ bigEndian 2 (e .term .duration)
 
-abbrev pub headerBytes : Content → List ℕ
-headerBytes c =
-    length (c .current)
-    ∷ (length (c .next)
-    ∷ (kindCode (c .header .kind)
-    ∷ (changeCode (c .header .change)
-    ∷ (controlCode (c .header .«current_control»)
-    ∷ (controlCode (c .header .«next_control»)
-    ∷ (c .header .quarter
-    ∷ (c .header .mark .kind
-    ∷ (c .header .mark .letters
-    ++ (0
-    ∷ (bigEndian 8 (c .header .network)
-    ++ bigEndian 4 (c .header .reference)))))))))))
+-- the first eight bytes of the header, with the counts of the two tariffs' entries
+abbrev pub firstEight : ℕ → ℕ → Header → List ℕ
+firstEight current next h =
+    current
+    ∷ (next
+    ∷ (kindCode (h .kind)
+    ∷ (changeCode (h .change)
+    ∷ (controlCode (h .«current_control»)
+    ∷ (controlCode (h .«next_control»)
+    ∷ (h .quarter
+    ∷ (h .mark .kind
+    ∷ [])))))))
+
+abbrev pub headerBytes : ℕ → ℕ → Header → List ℕ
+headerBytes current next h =
+    firstEight current next h ++ (h .mark .letters ++ (0 ∷ (bigEndian 8 (h .network) ++ bigEndian 4 (h .reference))))
 
 abbrev pub entries : Content → List Entry
 entries c = c .current ++ c .next
 
 abbrev pub encoded : Content → List ℕ
-encoded c = headerBytes c ++ (joined chargeBytes (entries c) ++ joined termBytes (entries c))
+encoded c =
+    headerBytes (length (c .current)) (length (c .next)) (c .header)
+    ++ (joined chargeBytes (entries c) ++ joined termBytes (entries c))

@@ -4,7 +4,8 @@ mod codes;
 mod durations;
 mod header;
 mod length;
+mod reading;
 mod uses;
 mod values;
 
-pub mod reading;
+pub use reading::Reader;
