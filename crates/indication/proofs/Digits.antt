@@ -46,6 +46,6 @@ bigEndian-value (d ∷ ds) h =
     let over : (d * 256 ^ length ds + value ds) / 256 ^ length ds ≡ d = digits-div d (value-lt ds (h .1)) in
     let top : d % 256 ≡ d = mod-eq-of-lt (h .0) in
     let below : bigEndian (length ds) (d * 256 ^ length ds + value ds) ≡ bigEndian (length ds) (value ds) =
-      bigEndian-add (length ds) d (value ds) in
+    bigEndian-add (length ds) d (value ds) in
     let rest : bigEndian (length ds) (value ds) ≡ ds = bigEndian-value ds (h .1) in
     cc

@@ -52,7 +52,6 @@ three : (h c t p q r w : List ℕ) → h ≡ p → c ≡ q → t ≡ r → w ≡
 three h c t p q r w e f g k = cc
 
 module _ (b : List ℕ) (bytes : (i : ℕ) → byte b i < 256) where
-
   part-bytes : (at n : ℕ) → Bytes (part b at n)
   part-bytes at zero = tt
   part-bytes at (suc n) = (bytes at, part-bytes (at + 1) n)
@@ -60,11 +59,11 @@ module _ (b : List ℕ) (bytes : (i : ℕ) → byte b i < 256) where
   charge-part : (i : ℕ) → chargeBytes (entryAt b i) ≡ part b (chargeOffset i) 6
   charge-part i =
       let size : bigEndian 4 (value (part b (chargeOffset i) 4)) ≡ part b (chargeOffset i) 4 =
-        bigEndian-value (part b (chargeOffset i) 4) (part-bytes (chargeOffset i) 4) in
+      bigEndian-value (part b (chargeOffset i) 4) (part-bytes (chargeOffset i) 4) in
       let bits : ofZ w16 (toZ w16 (value (part b (chargeOffset i + 4) 2))) ≡ value (part b (chargeOffset i + 4) 2) =
-        ofZ-toZ w16 _ (value-lt (part b (chargeOffset i + 4) 2) (part-bytes (chargeOffset i + 4) 2)) in
+      ofZ-toZ w16 _ (value-lt (part b (chargeOffset i + 4) 2) (part-bytes (chargeOffset i + 4) 2)) in
       let step : bigEndian 2 (value (part b (chargeOffset i + 4) 2)) ≡ part b (chargeOffset i + 4) 2 =
-        bigEndian-value (part b (chargeOffset i + 4) 2) (part-bytes (chargeOffset i + 4) 2) in
+      bigEndian-value (part b (chargeOffset i + 4) 2) (part-bytes (chargeOffset i + 4) 2) in
       let cut : part b (chargeOffset i) 6 ≡ part b (chargeOffset i) 4 ++ part b (chargeOffset i + 4) 2 = part-append b (chargeOffset i) 4 2 in
       cc
 
@@ -72,11 +71,10 @@ module _ (b : List ℕ) (bytes : (i : ℕ) → byte b i < 256) where
   term-part i h =
       let code = usage-code (byte b (termOffset b i)) h in
       let duration : bigEndian 2 (value (part b (termOffset b i + 1) 2)) ≡ part b (termOffset b i + 1) 2 =
-        bigEndian-value (part b (termOffset b i + 1) 2) (part-bytes (termOffset b i + 1) 2) in
+      bigEndian-value (part b (termOffset b i + 1) 2) (part-bytes (termOffset b i + 1) 2) in
       cc
 
   module _ (taken : Kind) (ok : Accepted taken b) where
-
     current-is : decoded b .current ≡ map (entryAt b) (counting 0 (currentCount b))
     current-is = take-all 6 _ (omega (arith, length-map-counting (entryAt b) 0 (currentCount b), formed.few-current taken b ok))
 
@@ -86,7 +84,7 @@ module _ (b : List ℕ) (bytes : (i : ℕ) → byte b i < 256) where
     entries-are : entries (decoded b) ≡ map (entryAt b) (counting 0 (entryCount b))
     entries-are =
         let cut : counting 0 (entryCount b) ≡ counting 0 (currentCount b) ++ counting (0 + currentCount b) (nextCount b) =
-          counting-append 0 (currentCount b) (nextCount b) in
+        counting-append 0 (currentCount b) (nextCount b) in
         let z : 0 + currentCount b ≡ currentCount b = omega arith in
         let apart = map-append (entryAt b) (counting 0 (currentCount b)) (counting (currentCount b) (nextCount b)) in
         let one = current-is in
@@ -117,7 +115,7 @@ module _ (b : List ℕ) (bytes : (i : ℕ) → byte b i < 256) where
         ap (joined termBytes) entries-are
         ∙ joined-map termBytes (entryAt b) (counting 0 (entryCount b))
         ∙ joined-parts b (λ i. termBytes (entryAt b i)) 3 (24 + 6 * entryCount b) 0 (entryCount b)
-          (λ i l m. term-part i (formed.use-code taken b ok i (omega arith)))
+        (λ i l m. term-part i (formed.use-code taken b ok i (omega arith)))
         ∙ ap (λ at. part b at (3 * entryCount b)) (add-zero (24 + 6 * entryCount b))
 
     pub encoded-decoded : encoded (decoded b) ≡ b

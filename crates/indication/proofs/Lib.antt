@@ -1,4 +1,3 @@
-pub mod Lists
 pub mod Digits
 pub mod Spans
 pub mod WellFormed

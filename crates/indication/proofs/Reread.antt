@@ -73,20 +73,20 @@ append-same (x ∷ xs) (y ∷ ys) s t l e =
 
 -- an entry, from its four parts
 same-entry :
-  (e : Entry) (size : ℕ) (step : ℤ) (use-of : Usage) (duration : ℕ)
-  → size ≡ e .charge .size → step ≡ e .charge .step → use-of ≡ e .term .usage → duration ≡ e .term .duration
-  → record { charge = record { size = size; step = step }; term = record { usage = use-of; duration = duration } } ≡ e
+    (e : Entry) (size : ℕ) (step : ℤ) (use-of : Usage) (duration : ℕ)
+    → size ≡ e .charge .size → step ≡ e .charge .step → use-of ≡ e .term .usage → duration ≡ e .term .duration
+    → record { charge = record { size = size; step = step }; term = record { usage = use-of; duration = duration } } ≡ e
 same-entry e size step use-of duration p q r t = rw (p, q, r, t)
 
 -- an entry, from the bytes of its charge and its term
 entry-back :
-  (b : List ℕ) (i : ℕ) (e : Entry) → ChargeFits e → TermFits e
-  → part b (chargeOffset i) 6 ≡ chargeBytes e → part b (termOffset b i) 3 ≡ termBytes e
-  → entryAt b i ≡ e
+    (b : List ℕ) (i : ℕ) (e : Entry) → ChargeFits e → TermFits e
+    → part b (chargeOffset i) 6 ≡ chargeBytes e → part b (termOffset b i) 3 ≡ termBytes e
+    → entryAt b i ≡ e
 entry-back b i e c-fits t-fits c t =
     let cut = part-append b (chargeOffset i) 4 2 in
     let two : (part b (chargeOffset i) 4 ≡ bigEndian 4 (e .charge .size)) × (part b (chargeOffset i + 4) 2 ≡ bigEndian 2 (ofZ w16 (e .charge .step))) =
-      append-same (part b (chargeOffset i) 4) (bigEndian 4 (e .charge .size)) _ _ refl (sym cut ∙ c) in
+    append-same (part b (chargeOffset i) 4) (bigEndian 4 (e .charge .size)) _ _ refl (sym cut ∙ c) in
     let use-byte : byte b (termOffset b i) ≡ usageCode (e .term .usage) = cc in
     let use-is : usageOf (byte b (termOffset b i)) ≡ e .term .usage = ap usageOf use-byte ∙ usage-of (e .term .usage) in
     let seconds : part b (termOffset b i + 1) 2 ≡ bigEndian 2 (e .term .duration) = cc in
@@ -98,19 +98,19 @@ entry-back b i e c-fits t-fits c t =
 
 -- a header, from its fields
 same-header :
-  (h : Header) (k : Kind) (change : Change) (one two : TariffControl) (quarter mark : ℕ) (ls : List ℕ) (network reference : ℕ)
-  → k ≡ h .kind → change ≡ h .change → one ≡ h .«current_control» → two ≡ h .«next_control» → quarter ≡ h .quarter
-  → mark ≡ h .mark .kind → ls ≡ h .mark .letters → network ≡ h .network → reference ≡ h .reference
-  → record
-      { kind = k
-      ; change = change
-      ; «current_control» = one
-      ; «next_control» = two
-      ; quarter = quarter
-      ; mark = record { kind = mark; letters = ls }
-      ; network = network
-      ; reference = reference
-      }
+    (h : Header) (k : Kind) (change : Change) (one two : TariffControl) (quarter mark : ℕ) (ls : List ℕ) (network reference : ℕ)
+    → k ≡ h .kind → change ≡ h .change → one ≡ h .«current_control» → two ≡ h .«next_control» → quarter ≡ h .quarter
+    → mark ≡ h .mark .kind → ls ≡ h .mark .letters → network ≡ h .network → reference ≡ h .reference
+    → record {
+      kind = k;
+      change = change;
+      «current_control» = one;
+      «next_control» = two;
+      quarter = quarter;
+      mark = record { kind = mark; letters = ls };
+      network = network;
+      reference = reference;
+    }
     ≡ h
 same-header h k change one two quarter mark ls network reference e f g i j l m n o = rw (e, f, g, i, j, l, m, n, o)
 
@@ -128,7 +128,6 @@ at-reference : (p l n f r : List ℕ) → p ++ ((l ++ (0 ∷ (n ++ f))) ++ r) �
 at-reference p l n f r = simp append-assoc
 
 module _ (c : Content) (fits : Fits c) where
-
   -- the header
   abbrev head : List ℕ
   head = headerBytes (length (c .current)) (length (c .next)) (c .header)
@@ -154,7 +153,7 @@ module _ (c : Content) (fits : Fits c) where
       let ls : List ℕ = c .header .mark .letters in
       ap (λ b. value (part b 12 8)) (at-network front ls (bigEndian 8 (c .header .network)) (bigEndian 4 (c .header .reference)) rest)
       ∙ ap value (part-at (front ++ (ls ++ (0 ∷ []))) (bigEndian 8 (c .header .network)) (bigEndian 4 (c .header .reference) ++ rest) 12 8
-        (omega (arith, length-append ls (0 ∷ []), fits .header .letters)) refl)
+      (omega (arith, length-append ls (0 ∷ []), fits .header .letters)) refl)
       ∙ value-back 8 (c .header .network) (fits .header .network)
 
   reference-back : value (part (encoded c) 20 4) ≡ c .header .reference
@@ -162,7 +161,7 @@ module _ (c : Content) (fits : Fits c) where
       let ls : List ℕ = c .header .mark .letters in
       ap (λ b. value (part b 20 4)) (at-reference front ls (bigEndian 8 (c .header .network)) (bigEndian 4 (c .header .reference)) rest)
       ∙ ap value (part-at (front ++ (ls ++ (0 ∷ bigEndian 8 (c .header .network)))) (bigEndian 4 (c .header .reference)) rest 20 4
-        (omega (arith, length-append ls (0 ∷ bigEndian 8 (c .header .network)), fits .header .letters)) refl)
+      (omega (arith, length-append ls (0 ∷ bigEndian 8 (c .header .network)), fits .header .letters)) refl)
       ∙ value-back 4 (c .header .reference) (fits .header .reference)
 
   header-back : headerOf (encoded c) ≡ c .header
@@ -176,10 +175,10 @@ module _ (c : Content) (fits : Fits c) where
       let es : List Entry = entries c in
       let count : length es ≡ entryCount (encoded c) = length-append (c .current) (c .next) in
       let behind : encoded c ≡ (head ++ joined chargeBytes es) ++ (joined termBytes es ++ []) =
-        sym (append-assoc (head) (joined chargeBytes es) (joined termBytes es))
-        ∙ ap (λ t. (head ++ joined chargeBytes es) ++ t) (sym (append-nil (joined termBytes es))) in
+      sym (append-assoc (head) (joined chargeBytes es) (joined termBytes es))
+      ∙ ap (λ t. (head ++ joined chargeBytes es) ++ t) (sym (append-nil (joined termBytes es))) in
       let at-term : length (head ++ joined chargeBytes es) + 3 * i ≡ termOffset (encoded c) i =
-        omega (arith, length-append (head) (joined chargeBytes es), header-long, length-joined chargeBytes 6 (λ e. refl) es, count) in
+      omega (arith, length-append (head) (joined chargeBytes es), header-long, length-joined chargeBytes 6 (λ e. refl) es, count) in
       entry-back (encoded c) i (getD es i d) (all-getD ChargeFits es i d h (fits .charges)) (all-getD TermFits es i d h (fits .terms))
       (part-joined chargeBytes 6 (λ e. refl) (head) (joined termBytes es) es i (chargeOffset i) d h (ap (λ n. n + 6 * i) header-long))
       (ap (λ b. part b (termOffset (encoded c) i) 3) behind
@@ -189,19 +188,19 @@ module _ (c : Content) (fits : Fits c) where
   current-back =
       same-lists _ _ (length-map-counting (entryAt (encoded c)) 0 (length (c .current)))
       (λ k d h.
-        let l : k < length (c .current) = omega (arith, length-map-counting (entryAt (encoded c)) 0 (length (c .current))) in
-        getD-map-counting (entryAt (encoded c)) 0 (length (c .current)) k k d l (omega arith)
-        ∙ entry-at k d (omega (arith, length-append (c .current) (c .next)))
-        ∙ getD-append-left (c .current) (c .next) d k l)
+      let l : k < length (c .current) = omega (arith, length-map-counting (entryAt (encoded c)) 0 (length (c .current))) in
+      getD-map-counting (entryAt (encoded c)) 0 (length (c .current)) k k d l (omega arith)
+      ∙ entry-at k d (omega (arith, length-append (c .current) (c .next)))
+      ∙ getD-append-left (c .current) (c .next) d k l)
 
   next-back : map (entryAt (encoded c)) (counting (length (c .current)) (length (c .next))) ≡ c .next
   next-back =
       same-lists _ _ (length-map-counting (entryAt (encoded c)) (length (c .current)) (length (c .next)))
       (λ k d h.
-        let l : k < length (c .next) = omega (arith, length-map-counting (entryAt (encoded c)) (length (c .current)) (length (c .next))) in
-        getD-map-counting (entryAt (encoded c)) (length (c .current)) (length (c .next)) k (length (c .current) + k) d l refl
-        ∙ entry-at (length (c .current) + k) d (omega (arith, length-append (c .current) (c .next)))
-        ∙ getD-append-add (c .current) (c .next) k d)
+      let l : k < length (c .next) = omega (arith, length-map-counting (entryAt (encoded c)) (length (c .current)) (length (c .next))) in
+      getD-map-counting (entryAt (encoded c)) (length (c .current)) (length (c .next)) k (length (c .current) + k) d l refl
+      ∙ entry-at (length (c .current) + k) d (omega (arith, length-append (c .current) (c .next)))
+      ∙ getD-append-add (c .current) (c .next) k d)
 
   pub decoded-encoded : decoded (encoded c) ≡ c
   decoded-encoded =

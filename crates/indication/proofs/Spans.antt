@@ -26,23 +26,23 @@ pub part-all : (b : List ℕ) → part b 0 (length b) ≡ b
 part-all b =
     same-lists _ _ (length-map-counting (byte b) 0 (length b))
     (λ k d h.
-      let l : k < length b = omega (arith, length-map-counting (byte b) 0 (length b)) in
-      getD-map-counting (byte b) 0 (length b) k k d l (omega arith) ∙ getD-default b k 0 d l)
+    let l : k < length b = omega (arith, length-map-counting (byte b) 0 (length b)) in
+    getD-map-counting (byte b) 0 (length b) k k d l (omega arith) ∙ getD-default b k 0 d l)
 
 -- pieces of width w, one after another, are one piece
 pub joined-parts :
-  (b : List ℕ) (f : ℕ → List ℕ) (w at : ℕ) (first n : ℕ)
-  → ((i : ℕ) → first ≤ i → i < first + n → f i ≡ part b (at + w * i) w)
-  → joined f (counting first n) ≡ part b (at + w * first) (w * n)
+    (b : List ℕ) (f : ℕ → List ℕ) (w at : ℕ) (first n : ℕ)
+    → ((i : ℕ) → first ≤ i → i < first + n → f i ≡ part b (at + w * i) w)
+    → joined f (counting first n) ≡ part b (at + w * first) (w * n)
 joined-parts b f w at first zero h = rw (mul-zero w)
 joined-parts b f w at first (suc n) h =
     let here : f first ≡ part b (at + w * first) w = h first (omega arith) (omega arith) in
     let later : joined f (counting (first + 1) n) ≡ part b (at + w * (first + 1)) (w * n) =
-      joined-parts b f w at (first + 1) n (λ i g l. h i (omega arith) (omega arith)) in
+    joined-parts b f w at (first + 1) n (λ i g l. h i (omega arith) (omega arith)) in
     let next : at + w * (first + 1) ≡ at + w * first + w = omega (arith, mul-add w first 1) in
     let wide : w * suc n ≡ w + w * n = omega (arith, mul-add w n 1) in
     let cut : part b (at + w * first) (w + w * n) ≡ part b (at + w * first) w ++ part b (at + w * first + w) (w * n) =
-      part-append b (at + w * first) w (w * n) in
+    part-append b (at + w * first) w (w * n) in
     cc
 
 pub joined-map : {X Y A : Type 0} (f : Y → List A) (g : X → Y) (xs : List X) → joined f (map g xs) ≡ joined (λ x. f (g x)) xs
@@ -64,31 +64,31 @@ pub part-at : (p x s : List ℕ) (at n : ℕ) → length p ≡ at → length x �
 part-at p x s at n p-long x-long =
     same-lists _ _ (length-map-counting (byte (p ++ (x ++ s))) at n ∙ sym x-long)
     (λ k d h.
-      let l : k < n = omega (arith, length-map-counting (byte (p ++ (x ++ s))) at n) in
-      let e : at + k ≡ length p + k = omega arith in
-      let m : k < length x = omega arith in
-      getD-map-counting (byte (p ++ (x ++ s))) at n k (at + k) d l refl
-      ∙ ap (byte (p ++ (x ++ s))) e
-      ∙ getD-append-add p (x ++ s) k 0
-      ∙ getD-append-left x s 0 k m
-      ∙ getD-default x k 0 d m)
+    let l : k < n = omega (arith, length-map-counting (byte (p ++ (x ++ s))) at n) in
+    let e : at + k ≡ length p + k = omega arith in
+    let m : k < length x = omega arith in
+    getD-map-counting (byte (p ++ (x ++ s))) at n k (at + k) d l refl
+    ∙ ap (byte (p ++ (x ++ s))) e
+    ∙ getD-append-add p (x ++ s) k 0
+    ∙ getD-append-left x s 0 k m
+    ∙ getD-default x k 0 d m)
 
 -- the piece of element i
 pub part-joined :
-  {X : Type 0} (f : X → List ℕ) (w : ℕ) → ((x : X) → length (f x) ≡ w)
-  → (p s : List ℕ) (xs : List X) (i at : ℕ) (d : X) → i < length xs → length p + w * i ≡ at
-  → part (p ++ (joined f xs ++ s)) at w ≡ f (getD xs i d)
+    {X : Type 0} (f : X → List ℕ) (w : ℕ) → ((x : X) → length (f x) ≡ w)
+    → (p s : List ℕ) (xs : List X) (i at : ℕ) (d : X) → i < length xs → length p + w * i ≡ at
+    → part (p ++ (joined f xs ++ s)) at w ≡ f (getD xs i d)
 part-joined f w h p s xs i at d l e =
     let x = getD xs i d in
     let front = joined f (take i xs) in
     let back = joined f (drop (i + 1) xs) in
     let apart : joined f xs ≡ front ++ (f x ++ back) =
-      ap (joined f) (sym (take-append-drop i xs) ∙ ap (λ ys. take i xs ++ ys) (drop-more xs i d l))
-      ∙ joined-append f (take i xs) (x ∷ drop (i + 1) xs) in
+    ap (joined f) (sym (take-append-drop i xs) ∙ ap (λ ys. take i xs ++ ys) (drop-more xs i d l))
+    ∙ joined-append f (take i xs) (x ∷ drop (i + 1) xs) in
     let whole : p ++ (joined f xs ++ s) ≡ (p ++ front) ++ (f x ++ (back ++ s)) =
-      ap (λ ys. p ++ (ys ++ s)) apart ∙ simp append-assoc in
+    ap (λ ys. p ++ (ys ++ s)) apart ∙ simp append-assoc in
     let long : length (p ++ front) ≡ at =
-      length-append p front
-      ∙ ap (λ n. length p + n) (length-joined f w h (take i xs) ∙ ap (λ n. w * n) (length-take-le i xs (omega arith)))
-      ∙ e in
+    length-append p front
+    ∙ ap (λ n. length p + n) (length-joined f w h (take i xs) ∙ ap (λ n. w * n) (length-take-le i xs (omega arith)))
+    ∙ e in
     ap (λ ys. part ys at w) whole ∙ part-at (p ++ front) (f x) (back ++ s) at w long (h x)

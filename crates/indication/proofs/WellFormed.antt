@@ -33,7 +33,6 @@ by-kind kind.Tariff e ne = absurd (ne e)
 by-kind kind.AddOn e ne = e
 
 module _ (taken : Kind) (b : List ℕ) (ok : Accepted taken b) where
-
   pub long : length b ≡ fullLength b
   long =
       ⊎-elim (λ l. absurd (ok (WrongLength (length b)) (inl (l, refl))))
@@ -73,10 +72,10 @@ module _ (taken : Kind) (b : List ℕ) (ok : Accepted taken b) where
   use-code-tariff t i l =
       ⊎-elim
       (λ m. let e : 0 + i ≡ i = omega arith in
-        rw e at (tariff-code 0 (currentCount b) (λ at w. ok (BrokenLayout at) (inr (inl (t, inl w)))) i m))
+      rw e at (tariff-code 0 (currentCount b) (λ at w. ok (BrokenLayout at) (inr (inl (t, inl w)))) i m))
       (λ m. let e : currentCount b + (i - currentCount b) ≡ i = omega arith in
-        rw e at (tariff-code (currentCount b) (nextCount b) (λ at w. ok (BrokenLayout at) (inr (inl (t, inr w)))) (i - currentCount b)
-        (omega arith)))
+      rw e at (tariff-code (currentCount b) (nextCount b) (λ at w. ok (BrokenLayout at) (inr (inl (t, inr w)))) (i - currentCount b)
+      (omega arith)))
       (cases-lt i (currentCount b))
 
   use-code-add-on : byte b 2 ≡ 2 → (i : ℕ) → i < entryCount b → byte b (termOffset b i) ≤ 4

@@ -62,16 +62,16 @@ ifEntry b i x = cond (ltb i (entryCount b)) (Some x) None
 
 abbrev pub headerOf : List ℕ → Header
 headerOf b =
-    record
-      { kind = kindOf (byte b 2)
-      ; change = changeOf (byte b 3)
-      ; «current_control» = controlOf (byte b 4)
-      ; «next_control» = controlOf (byte b 5)
-      ; quarter = byte b 6
-      ; mark = record { kind = byte b 7; letters = part b 8 3 }
-      ; network = value (part b 12 8)
-      ; reference = value (part b 20 4)
-      }
+    record {
+      kind = kindOf (byte b 2);
+      change = changeOf (byte b 3);
+      «current_control» = controlOf (byte b 4);
+      «next_control» = controlOf (byte b 5);
+      quarter = byte b 6;
+      mark = record { kind = byte b 7; letters = part b 8 3 };
+      network = value (part b 12 8);
+      reference = value (part b 20 4);
+    }
 
 -- what an indication says
 pub record Content : Type 0 where
@@ -89,11 +89,11 @@ contentOf v = record { header = v .header; current = listed (v .current); next =
 -- what bytes say. A tariff has at most six entries.
 abbrev pub decoded : List ℕ → Content
 decoded b =
-    record
-      { header = headerOf b
-      ; current = take 6 (map (entryAt b) (counting 0 (currentCount b)))
-      ; next = take 6 (map (entryAt b) (counting (currentCount b) (nextCount b)))
-      }
+    record {
+      header = headerOf b;
+      current = take 6 (map (entryAt b) (counting 0 (currentCount b)));
+      next = take 6 (map (entryAt b) (counting (currentCount b) (nextCount b)));
+    }
 
 -- the bytes of a content
 abbrev pub chargeBytes : Entry → List ℕ

@@ -40,7 +40,10 @@ impl Fault {
         ensures { λ r. ⌜ r ≡ layerOf self ⌝ }
     {
         match self {
-            Fault::WrongLength(_) | Fault::BrokenLayout(_) | Fault::EmptyTariff | Fault::WrongDuration(_) => Layer::Reader,
+            Fault::WrongLength(_)
+            | Fault::BrokenLayout(_)
+            | Fault::EmptyTariff
+            | Fault::WrongDuration(_) => Layer::Reader,
             Fault::NoRoom(_) => Layer::Writer,
         }
     }
@@ -49,7 +52,9 @@ impl Fault {
         ensures { λ r. ⌜ r ≡ offsetOf self ⌝ }
     {
         match self {
-            Fault::WrongLength(offset) | Fault::BrokenLayout(offset) | Fault::WrongDuration(offset) => offset,
+            Fault::WrongLength(offset)
+            | Fault::BrokenLayout(offset)
+            | Fault::WrongDuration(offset) => offset,
             Fault::EmptyTariff => 0,
             Fault::NoRoom(needed) => needed,
         }

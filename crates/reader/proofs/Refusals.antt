@@ -20,7 +20,6 @@ past-header b at (inl (_, inr (k, _, is, _))) = omega arith
 past-header b at (inr (_, is, _)) = omega arith
 
 module _ (taken : Kind) (b : List ℕ) (right-length : First (WrongLengthAt b) None) where
-
   header-first : (at : ℕ) → First (BrokenHeader taken b) (Some at) → (g : Fault) → Grounds taken b g → Precedes (BrokenLayout at) g
   header-first at h (WrongLength x) w = absurd (right-length x w)
   header-first at h (BrokenLayout x) (inl w) = inr (refl, h .1 x w)
@@ -33,7 +32,6 @@ module _ (taken : Kind) (b : List ℕ) (right-length : First (WrongLengthAt b) N
   header-refused at h = record { grounded = inl (h .0); first = header-first at h }
 
   module _ (right-header : First (BrokenHeader taken b) None) where
-
     use-first : (at : ℕ) → First (BrokenUse b) (Some at) → (g : Fault) → Grounds taken b g → Precedes (BrokenLayout at) g
     use-first at h (WrongLength x) w = absurd (right-length x w)
     use-first at h (BrokenLayout x) (inl w) = absurd (right-header x w)
@@ -46,7 +44,6 @@ module _ (taken : Kind) (b : List ℕ) (right-length : First (WrongLengthAt b) N
     use-refused at h = record { grounded = inr (h .0); first = use-first at h }
 
     module _ (right-uses : First (BrokenUse b) None) where
-
       empty-first : (g : Fault) → Grounds taken b g → Precedes EmptyTariff g
       empty-first (WrongLength x) w = absurd (right-length x w)
       empty-first (BrokenLayout x) (inl w) = absurd (right-header x w)
@@ -59,7 +56,6 @@ module _ (taken : Kind) (b : List ℕ) (right-length : First (WrongLengthAt b) N
       empty-refused h = record { grounded = h; first = empty-first }
 
       module _ (not-empty : IsEmpty b → ⊥) where
-
         duration-first : (at : ℕ) → First (DisallowedAt b) (Some at) → (g : Fault) → Grounds taken b g → Precedes (WrongDuration at) g
         duration-first at h (WrongLength x) w = absurd (right-length x w)
         duration-first at h (BrokenLayout x) (inl w) = absurd (right-header x w)

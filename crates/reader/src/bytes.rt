@@ -23,7 +23,12 @@ pub(crate) fn quad(bytes: &[u8], at: usize) -> u32
     requires { ⌜ at < 1000000 ⌝ }
     ensures { λ r. ⌜ r ≡ value (part (now (bytes .entry)) at 4) ⌝ }
 {
-    u32::from_be_bytes([byte(bytes, at), byte(bytes, at + 1), byte(bytes, at + 2), byte(bytes, at + 3)])
+    u32::from_be_bytes([
+        byte(bytes, at),
+        byte(bytes, at + 1),
+        byte(bytes, at + 2),
+        byte(bytes, at + 3),
+    ])
 }
 
 // The number that the eight bytes from an offset on write.

@@ -52,5 +52,8 @@ pub(crate) fn usage_of(code: u8) -> Usage
 pub(crate) fn mark_of(bytes: &[u8]) -> Mark
     ensures { λ r. ⌜ r ≡ headerOf (now (bytes .entry)) .mark ⌝ }
 {
-    Mark { kind: byte(bytes, 7), letters: [byte(bytes, 8), byte(bytes, 9), byte(bytes, 10)] }
+    Mark {
+        kind: byte(bytes, 7),
+        letters: [byte(bytes, 8), byte(bytes, 9), byte(bytes, 10)],
+    }
 }

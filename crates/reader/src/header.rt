@@ -9,7 +9,18 @@ pub(crate) fn broken_header(bytes: &[u8], taken: Kind) -> Option<usize>
     requires { ⌜ 24 ≤ length (now bytes) ⌝ }
     ensures { λ r. ⌜ First (BrokenHeader taken (now (bytes .entry))) r ⌝ }
 {
-    let [current, next, kind, change, current_control, next_control, quarter, _unit, _rest @ ..] = bytes else {
+    let [
+        current,
+        next,
+        kind,
+        change,
+        current_control,
+        next_control,
+        quarter,
+        _unit,
+        _rest @ ..,
+    ] = bytes
+    else {
         return None;
     };
     let add_on = *kind == Kind::AddOn as u8;
@@ -55,5 +66,9 @@ fn wrong_flag(flag: u8, idle: bool) -> bool
 fn wrong_quarter(quarter: u8, count: u8) -> bool
     ensures { λ r. ⌜ Tells r (WrongQuarter count quarter) ⌝ }
 {
-    if count == 0 { quarter != 0 } else { quarter == 0 || quarter > 96 }
+    if count == 0 {
+        quarter != 0
+    } else {
+        quarter == 0 || quarter > 96
+    }
 }

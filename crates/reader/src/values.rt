@@ -80,5 +80,9 @@ pub(crate) fn indication_of(bytes: &[u8]) -> Indication
     let count = byte(bytes, 0);
     let current = entries(bytes, 0, count);
     let next = entries(bytes, count, byte(bytes, 1));
-    Indication { header, current, next }
+    Indication {
+        header,
+        current,
+        next,
+    }
 }

@@ -24,9 +24,9 @@ blank = record { charge = record { size = 0; step = pos 0 }; term = record { usa
 
 -- the piece of element i goes behind those of the elements before it
 pub piece-more :
-  (f : Entry → List ℕ) (xs : List Entry) (i : ℕ) (before so-far after piece : List ℕ)
-  → i < length xs → so-far ≡ before ++ joined f (take i xs) → after ≡ so-far ++ piece → piece ≡ f (getD xs i blank)
-  → after ≡ before ++ joined f (take (i + 1) xs)
+    (f : Entry → List ℕ) (xs : List Entry) (i : ℕ) (before so-far after piece : List ℕ)
+    → i < length xs → so-far ≡ before ++ joined f (take i xs) → after ≡ so-far ++ piece → piece ≡ f (getD xs i blank)
+    → after ≡ before ++ joined f (take (i + 1) xs)
 piece-more f xs i before so-far after piece l inv put is =
     put
     ∙ ap (λ ys. so-far ++ ys) is
@@ -36,13 +36,13 @@ piece-more f xs i before so-far after piece l inv put is =
 
 -- with the last of them, all are there
 pub pieces-all :
-  (f : Entry → List ℕ) (xs : List Entry) (i : ℕ) (before after : List ℕ)
-  → length xs ≤ i → after ≡ before ++ joined f (take i xs) → after ≡ before ++ joined f xs
+    (f : Entry → List ℕ) (xs : List Entry) (i : ℕ) (before after : List ℕ)
+    → length xs ≤ i → after ≡ before ++ joined f (take i xs) → after ≡ before ++ joined f xs
 pieces-all f xs i before after l inv = inv ∙ ap (λ ys. before ++ joined f ys) (take-all i xs l)
 
 -- the same of what holds of each
 pub fits-more :
-  (P : Entry → Type 0) (xs : List Entry) (i : ℕ) → i < length xs → All P (take i xs) → P (getD xs i blank) → All P (take (i + 1) xs)
+    (P : Entry → Type 0) (xs : List Entry) (i : ℕ) → i < length xs → All P (take i xs) → P (getD xs i blank) → All P (take (i + 1) xs)
 fits-more P xs i l so-far here = rw (take-more xs i blank l) (all-push P (take i xs) (getD xs i blank) so-far here)
 
 pub fits-all : (P : Entry → Type 0) (xs : List Entry) (i : ℕ) → length xs ≤ i → All P (take i xs) → All P xs
@@ -50,10 +50,10 @@ fits-all P xs i l h = rw (take-all i xs l) at h
 
 -- the five parts of the header, one behind the other
 pub header-laid :
-  (current next : ℕ) (h : Header) (w p n f one two three four five : List ℕ)
-  → p ≡ firstEight current next h → n ≡ bigEndian 8 (h .network) → f ≡ bigEndian 4 (h .reference)
-  → one ≡ w ++ p → two ≡ one ++ h .mark .letters → three ≡ two ++ 0 ∷ [] → four ≡ three ++ n → five ≡ four ++ f
-  → five ≡ w ++ headerBytes current next h
+    (current next : ℕ) (h : Header) (w p n f one two three four five : List ℕ)
+    → p ≡ firstEight current next h → n ≡ bigEndian 8 (h .network) → f ≡ bigEndian 4 (h .reference)
+    → one ≡ w ++ p → two ≡ one ++ h .mark .letters → three ≡ two ++ 0 ∷ [] → four ≡ three ++ n → five ≡ four ++ f
+    → five ≡ w ++ headerBytes current next h
 header-laid current next h w p n f one two three four five e-p e-n e-f e g i j k = rw (k, j, i, g, e, e-p, e-n, e-f) (simp append-assoc)
 
 -- the last byte of a number
@@ -65,16 +65,16 @@ regroup h a b c d = simp append-assoc
 
 -- the header, then the charges and the terms of both tariffs
 pub all-laid :
-  (c : Content) (current next : List Entry) (w0 w1 w2 w3 w4 w5 : List ℕ)
-  → current ≡ c .current → next ≡ c .next
-  → w0 ≡ [] → w1 ≡ w0 ++ headerBytes (length current) (length next) (c .header)
-  → w2 ≡ w1 ++ joined chargeBytes current → w3 ≡ w2 ++ joined chargeBytes next
-  → w4 ≡ w3 ++ joined termBytes current → w5 ≡ w4 ++ joined termBytes next
-  → w5 ≡ encoded c
+    (c : Content) (current next : List Entry) (w0 w1 w2 w3 w4 w5 : List ℕ)
+    → current ≡ c .current → next ≡ c .next
+    → w0 ≡ [] → w1 ≡ w0 ++ headerBytes (length current) (length next) (c .header)
+    → w2 ≡ w1 ++ joined chargeBytes current → w3 ≡ w2 ++ joined chargeBytes next
+    → w4 ≡ w3 ++ joined termBytes current → w5 ≡ w4 ++ joined termBytes next
+    → w5 ≡ encoded c
 all-laid c current next w0 w1 w2 w3 w4 w5 e f g h i j k l =
     let two : joined chargeBytes (entries c) ++ joined termBytes (entries c)
-      ≡ (joined chargeBytes (c .current) ++ joined chargeBytes (c .next)) ++ (joined termBytes (c .current) ++ joined termBytes (c .next)) =
-      rw (joined-append chargeBytes (c .current) (c .next), joined-append termBytes (c .current) (c .next)) in
+    ≡ (joined chargeBytes (c .current) ++ joined chargeBytes (c .next)) ++ (joined termBytes (c .current) ++ joined termBytes (c .next)) =
+    rw (joined-append chargeBytes (c .current) (c .next), joined-append termBytes (c .current) (c .next)) in
     rw (l, k, j, i, h, g, e, f)
     (regroup (headerBytes (length (c .current)) (length (c .next)) (c .header)) _ _ _ _
     ∙ sym (ap (λ rest. headerBytes (length (c .current)) (length (c .next)) (c .header) ++ rest) two))

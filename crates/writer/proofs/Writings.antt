@@ -12,16 +12,16 @@ use Rattle.indication.proofs.Reread.{decoded-encoded}
 use Rattle.writer.specs.Writing.{Written}
 
 pub copied :
-  (c : Content) (w b before part : List ℕ) → Fits c → w ≡ encoded c → b ≡ w → Accepted (c .header .kind) b
-  → length b ≤ length before → part ≡ b
-  → Written c before (part ++ postOf 0 (length b - 0) before) (length b)
+    (c : Content) (w b before part : List ℕ) → Fits c → w ≡ encoded c → b ≡ w → Accepted (c .header .kind) b
+    → length b ≤ length before → part ≡ b
+    → Written c before (part ++ postOf 0 (length b - 0) before) (length b)
 copied c w b before part fits is read ok room copy =
     let e : b ≡ encoded c = read ∙ is in
     let n : length b - 0 ≡ length b = omega arith in
-    record
-      { accepted = subst (Accepted (c .header .kind)) e ok
-      ; long = ap length e
-      ; room = room
-      ; bytes = ap (λ p. p ++ drop (length b - 0) before) (copy ∙ e) ∙ ap (λ k. encoded c ++ drop k before) n
-      ; reads-back = decoded-encoded c fits
-      }
+    record {
+      accepted = subst (Accepted (c .header .kind)) e ok;
+      long = ap length e;
+      room = room;
+      bytes = ap (λ p. p ++ drop (length b - 0) before) (copy ∙ e) ∙ ap (λ k. encoded c ++ drop k before) n;
+      reads-back = decoded-encoded c fits;
+    }

@@ -20,7 +20,10 @@ impl Encoding {
         ensures bytes { λ r. ⌜ written r ≡ [] ⌝ }
         ensures len { λ r. ⌜ r .len ≡ 0 ⌝ }
     {
-        Encoding { bytes: [0; 132], len: 0 }
+        Encoding {
+            bytes: [0; 132],
+            len: 0,
+        }
     }
 
     // The bytes of an indication.

@@ -20,8 +20,8 @@ returns-in-Some-disallowed c =
     (c .if-is-empty .ensures tt) _ (c .in-Some-disallowed .ensures tt)
 
 pub returns : need.returns
-returns c =
-    ( accepted _ _ (c .in-rest .ensures tt .0) (c .in-rest-broken-header .ensures tt) (c .in-rest-broken-use .ensures tt)
-      (c .if-is-empty .ensures tt) (c .in-rest-disallowed .ensures tt)
-    , refl
-    )
+returns c = (
+  accepted _ _ (c .in-rest .ensures tt .0) (c .in-rest-broken-header .ensures tt) (c .in-rest-broken-use .ensures tt)
+      (c .if-is-empty .ensures tt) (c .in-rest-disallowed .ensures tt),
+  refl,
+)

@@ -14,10 +14,10 @@ ghost-self c = (omega arith, (search (needs, places), tt))
 pub returns : need.returns
 returns c =
     let same : length (c .copy-from-slice .last .self) ≡ length (c .args .part .now) = ap length (c .copy-from-slice .ensures .after) in
-    record
-      { bytes =
-        take-putMid (c .args .self .now .len) _ (c .args .self .now .bytes) (c .copy-from-slice .last .self)
-        (c .args .self .now .len + length (c .args .part .now)) (omega arith) (omega arith)
-        ∙ ap (λ ys. take (c .args .self .now .len) (c .args .self .now .bytes) ++ ys) (c .copy-from-slice .ensures .after)
-      ; len = search needs
-      }
+    record {
+      bytes =
+          take-putMid (c .args .self .now .len) _ (c .args .self .now .bytes) (c .copy-from-slice .last .self)
+          (c .args .self .now .len + length (c .args .part .now)) (omega arith) (omega arith)
+          ∙ ap (λ ys. take (c .args .self .now .len) (c .args .self .now .bytes) ++ ys) (c .copy-from-slice .ensures .after);
+      len = search needs;
+    }
