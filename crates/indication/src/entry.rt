@@ -1,7 +1,7 @@
 // The entries of a tariff or an add-on: a charge, and the term on which it is taken.
 
 // What a charge is taken for.
-#[derive(Clone, Copy, PartialEq, Eq)]
+#[derive(Clone, Copy, PartialEq, Eq, Debug)]
 pub enum Usage {
     // a subtariff whose charge recurs while it lasts
     Periodic = 0,
@@ -16,20 +16,20 @@ pub enum Usage {
 }
 
 // An amount as the operator writes it; only a charge unit says what it is worth.
-#[derive(Clone, Copy, PartialEq, Eq)]
+#[derive(Clone, Copy, PartialEq, Eq, Debug)]
 pub struct Charge {
     pub size: u32,
     pub step: i16,
 }
 
 // What a charge is taken for, and for how many seconds: 0 is without end, or no length at all.
-#[derive(Clone, Copy, PartialEq, Eq)]
+#[derive(Clone, Copy, PartialEq, Eq, Debug)]
 pub struct Term {
     pub usage: Usage,
     pub duration: u16,
 }
 
-#[derive(Clone, Copy, PartialEq, Eq)]
+#[derive(Clone, Copy, PartialEq, Eq, Debug)]
 pub struct Entry {
     pub charge: Charge,
     pub term: Term,

@@ -2,14 +2,14 @@ ghost use Rattle.indication.specs.Faults.{numberOf, layerOf, offsetOf};
 ghost use mathlib.Core.Path.{_≡_};
 
 // The layer that raises a refusal.
-#[derive(Clone, Copy, PartialEq, Eq)]
+#[derive(Clone, Copy, PartialEq, Eq, Debug)]
 pub enum Layer {
     Reader,
     Writer,
 }
 
 // Why an indication is refused, with the offset of the byte that shows it.
-#[derive(Clone, Copy, PartialEq, Eq)]
+#[derive(Clone, Copy, PartialEq, Eq, Debug)]
 pub enum Fault {
     // the length is not the one that the two counts ask for
     WrongLength(usize),

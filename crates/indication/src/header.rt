@@ -1,6 +1,6 @@
 // What an indication says beside its entries.
 
-#[derive(Clone, Copy, PartialEq, Eq)]
+#[derive(Clone, Copy, PartialEq, Eq, Debug)]
 pub enum Kind {
     // new tariffs
     Tariff = 1,
@@ -9,27 +9,27 @@ pub enum Kind {
 }
 
 // How a new current tariff takes effect.
-#[derive(Clone, Copy, PartialEq, Eq)]
+#[derive(Clone, Copy, PartialEq, Eq, Debug)]
 pub enum Change {
     WithoutRestart = 0,
     WithRestart = 1,
 }
 
 // What follows the last subtariff of a sequence: the first again, or nothing.
-#[derive(Clone, Copy, PartialEq, Eq)]
+#[derive(Clone, Copy, PartialEq, Eq, Debug)]
 pub enum TariffControl {
     Cyclic = 0,
     NonCyclic = 1,
 }
 
 // The charge unit that an indication is written for.
-#[derive(Clone, Copy, PartialEq, Eq)]
+#[derive(Clone, Copy, PartialEq, Eq, Debug)]
 pub struct Mark {
     pub kind: u8,
     pub letters: [u8; 3],
 }
 
-#[derive(Clone, Copy, PartialEq, Eq)]
+#[derive(Clone, Copy, PartialEq, Eq, Debug)]
 pub struct Header {
     pub kind: Kind,
     pub change: Change,
