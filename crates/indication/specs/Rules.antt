@@ -10,7 +10,7 @@ use Rattle.std.specs.declared.option.Option.{Option}
 use Rattle.std.specs.Options.{Cases}
 use Rattle.indication.specs.declared.header.Kind.{Kind}
 use Rattle.indication.specs.declared.fault.Fault.{Fault}
-use Rattle.indication.specs.declared.fault.Fault.the-variants.{WrongLength, BrokenLayout, EmptyTariff, WrongDuration, NoRoom}
+use Rattle.indication.specs.declared.fault.Fault.the-variants.{WrongLength, BrokenLayout, EmptyTariff, WrongDuration, ForeignMark, NotAdmitted, NoRoom}
 use Rattle.indication.specs.Faults.{numberOf, offsetOf}
 use Rattle.indication.specs.Numbers.{value}
 use Rattle.indication.specs.Codes.{kindCode}
@@ -122,18 +122,28 @@ Grounds taken b (WrongLength at) = WrongLengthAt b at
 Grounds taken b (BrokenLayout at) = BrokenHeader taken b at ⊎ BrokenUse b at
 Grounds taken b EmptyTariff = IsEmpty b
 Grounds taken b (WrongDuration at) = DisallowedAt b at
+Grounds taken b ForeignMark = ⊥
+Grounds taken b (NotAdmitted at) = ⊥
 Grounds taken b (NoRoom needed) = ⊥
 
 -- f goes before g: the smaller number, then the smaller offset
 abbrev pub Precedes : Fault → Fault → Type 0
 Precedes f g = (numberOf f < numberOf g) ⊎ ((numberOf f ≡ numberOf g) × (offsetOf f ≤ offsetOf g))
 
-pub record Refused (taken : Kind) (b : List ℕ) (f : Fault) : Type 0 where
-  pub grounded : Grounds taken b f
-  pub first : (g : Fault) → Grounds taken b g → Precedes f g
+-- f has a ground, and goes before every refusal that has one
+pub record Foremost (grounds : Fault → Type 0) (f : Fault) : Type 0 where
+  pub grounded : grounds f
+  pub first : (g : Fault) → grounds g → Precedes f g
+
+-- no refusal has a ground
+abbrev pub Groundless : (Fault → Type 0) → Type 0
+Groundless grounds = (f : Fault) → grounds f → ⊥
+
+abbrev pub Refused : Kind → List ℕ → Fault → Type 0
+Refused taken b f = Foremost (Grounds taken b) f
 
 abbrev pub Accepted : Kind → List ℕ → Type 0
-Accepted taken b = (f : Fault) → Grounds taken b f → ⊥
+Accepted taken b = Groundless (Grounds taken b)
 
 -- a test that is true just where P holds
 abbrev pub Tells : Bool → Type 0 → Type 0

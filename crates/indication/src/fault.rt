@@ -5,6 +5,7 @@ ghost use mathlib.Core.Path.{_≡_};
 #[derive(Clone, Copy, PartialEq, Eq, Debug)]
 pub enum Layer {
     Reader,
+    Unit,
     Writer,
 }
 
@@ -19,6 +20,10 @@ pub enum Fault {
     EmptyTariff,
     // a length that its entry may not have
     WrongDuration(usize),
+    // the mark of another charge unit
+    ForeignMark,
+    // a charge that the unit does not admit for its use
+    NotAdmitted(usize),
     // the buffer has not the room that is needed: so many bytes
     NoRoom(usize),
 }
@@ -32,6 +37,8 @@ impl Fault {
             Fault::BrokenLayout(_) => 2,
             Fault::EmptyTariff => 3,
             Fault::WrongDuration(_) => 4,
+            Fault::ForeignMark => 5,
+            Fault::NotAdmitted(_) => 6,
             Fault::NoRoom(_) => 7,
         }
     }
@@ -44,6 +51,7 @@ impl Fault {
             | Fault::BrokenLayout(_)
             | Fault::EmptyTariff
             | Fault::WrongDuration(_) => Layer::Reader,
+            Fault::ForeignMark | Fault::NotAdmitted(_) => Layer::Unit,
             Fault::NoRoom(_) => Layer::Writer,
         }
     }
@@ -54,8 +62,10 @@ impl Fault {
         match self {
             Fault::WrongLength(offset)
             | Fault::BrokenLayout(offset)
-            | Fault::WrongDuration(offset) => offset,
+            | Fault::WrongDuration(offset)
+            | Fault::NotAdmitted(offset) => offset,
             Fault::EmptyTariff => 0,
+            Fault::ForeignMark => 7,
             Fault::NoRoom(needed) => needed,
         }
     }

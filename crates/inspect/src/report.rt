@@ -1,5 +1,8 @@
 //! What is printed for each line of the input.
 
+use crate::amount::Amount;
+use crate::amount::AmountDisplay;
+use crate::amount::Denomination;
 use crate::time::TimeOfDay;
 use crate::time::TimeOfDayDisplay;
 use crate::words::ChargeText;
@@ -13,6 +16,7 @@ use crate::words::TermTextDisplay;
 use crate::words::change_word;
 use crate::words::control_word;
 use crate::words::kind_word;
+use indication::entry::Charge;
 use indication::entry::Entry;
 use indication::fault::Fault;
 use indication::header::Header;
@@ -22,21 +26,49 @@ use indication::value::Indication;
 use lines::hexadecimal::HexFault;
 use lines::hexadecimal::decode;
 use lines::line::LIMIT;
-use reader::Reader;
 use std::io;
+use tariffs::tariff::Tariff;
+use units::admission::read_for;
+use units::unit::Bounded;
 
 // The most bytes that a line's digits write.
 const MOST_BYTES: usize = LIMIT / 2;
 
+/// The unit that indications are read for, and what its amounts are called.
+#[derive(Clone, Copy)]
+pub struct Pricing<U> {
+    pub unit: U,
+    pub denomination: Denomination,
+}
+
+impl<U: Bounded> Pricing<U> {
+    fn price(&self, charge: Charge) -> Amount {
+        self.amount(self.unit.price(charge))
+    }
+
+    fn amount(&self, value: u64) -> Amount {
+        let denomination = self.denomination;
+        Amount {
+            value,
+            denomination,
+        }
+    }
+}
+
 /// Prints what a line says; `None` is a line that is too long.
-pub fn print_line(rt: &impl Print, number: u64, line: Option<&[u8]>) -> io::Result<()> {
+pub fn print_line<U: Bounded>(
+    rt: &impl Print,
+    pricing: &Pricing<U>,
+    number: u64,
+    line: Option<&[u8]>,
+) -> io::Result<()> {
     print!(rt, "line {number}: ")?;
     let Some(text) = line else {
         return println!(rt, "more than {LIMIT} characters");
     };
     let mut bytes = [0u8; MOST_BYTES];
     match decode(text, &mut bytes) {
-        Ok(count) => print_bytes(rt, &bytes[0..count]),
+        Ok(count) => print_bytes(rt, pricing, &bytes[0..count]),
         Err(fault) => print_hex_fault(rt, fault),
     }
 }
@@ -61,12 +93,12 @@ fn taken_kind(bytes: &[u8]) -> Kind {
     }
 }
 
-fn print_bytes(rt: &impl Print, bytes: &[u8]) -> io::Result<()> {
-    match Reader::read(bytes, taken_kind(bytes)) {
+fn print_bytes<U: Bounded>(rt: &impl Print, pricing: &Pricing<U>, bytes: &[u8]) -> io::Result<()> {
+    match read_for(bytes, taken_kind(bytes), &pricing.unit) {
         Ok(reader) => {
             let indication = reader.indication();
             print_header(rt, &indication.header, bytes.len())?;
-            print_entries(rt, &indication)?;
+            print_entries(rt, pricing, &indication)?;
             print_rewritten(rt, rewrite(&indication, bytes))
         }
         Err(fault) => {
@@ -88,44 +120,94 @@ fn print_header(rt: &impl Print, header: &Header, length: usize) -> io::Result<(
     )
 }
 
-fn print_entries(rt: &impl Print, indication: &Indication) -> io::Result<()> {
+fn print_entries<U: Bounded>(
+    rt: &impl Print,
+    pricing: &Pricing<U>,
+    indication: &Indication,
+) -> io::Result<()> {
     let header = indication.header;
     let current = indication.current.as_slice();
     match header.kind {
-        Kind::AddOn => print_list(rt, "  ", current),
+        Kind::AddOn => print_list(rt, pricing, "  ", current),
         Kind::Tariff => {
             let change = change_word(header.change);
             println!(rt, "  change {change}")?;
-            print_current(rt, header.current_control, current)?;
-            print_next(rt, &header, indication.next.as_slice())
+            print_current(rt, pricing, header.current_control, current)?;
+            print_next(rt, pricing, &header, indication.next.as_slice())
         }
     }
 }
 
-fn print_current(rt: &impl Print, control: TariffControl, entries: &[Entry]) -> io::Result<()> {
+fn print_current<U: Bounded>(
+    rt: &impl Print,
+    pricing: &Pricing<U>,
+    control: TariffControl,
+    entries: &[Entry],
+) -> io::Result<()> {
     if entries.is_empty() {
         return println!(rt, "  no current tariff");
     }
-    let control = control_word(control);
-    println!(rt, "  current tariff, {control}:")?;
-    print_list(rt, "    ", entries)
+    let word = control_word(control);
+    println!(rt, "  current tariff, {word}:")?;
+    print_tariff(rt, pricing, control, entries)
 }
 
-fn print_next(rt: &impl Print, header: &Header, entries: &[Entry]) -> io::Result<()> {
+fn print_next<U: Bounded>(
+    rt: &impl Print,
+    pricing: &Pricing<U>,
+    header: &Header,
+    entries: &[Entry],
+) -> io::Result<()> {
     if entries.is_empty() {
         return println!(rt, "  no next tariff");
     }
     let time = TimeOfDay::after_quarters(header.quarter);
-    let control = control_word(header.next_control);
-    println!(rt, "  next tariff from {time}, {control}:")?;
-    print_list(rt, "    ", entries)
+    let control = header.next_control;
+    let word = control_word(control);
+    println!(rt, "  next tariff from {time}, {word}:")?;
+    print_tariff(rt, pricing, control, entries)
 }
 
-fn print_list(rt: &impl Print, indent: &str, entries: &[Entry]) -> io::Result<()> {
+fn print_tariff<U: Bounded>(
+    rt: &impl Print,
+    pricing: &Pricing<U>,
+    control: TariffControl,
+    entries: &[Entry],
+) -> io::Result<()> {
+    print_list(rt, pricing, "    ", entries)?;
+    let tariff = Tariff::of(control, entries);
+    print_stretch(rt, pricing, &tariff, "minute", 60)?;
+    print_stretch(rt, pricing, &tariff, "hour", 3600)
+}
+
+// What the first seconds of a call under the tariff cost, apart from its set-up charge.
+fn print_stretch<U: Bounded>(
+    rt: &impl Print,
+    pricing: &Pricing<U>,
+    tariff: &Tariff,
+    stretch: &str,
+    seconds: u32,
+) -> io::Result<()> {
+    match tariff.price_of_stretch(&pricing.unit, 0, seconds) {
+        Some(value) => {
+            let amount = pricing.amount(value);
+            println!(rt, "    the first {stretch}: {amount}")
+        }
+        None => println!(rt, "    the first {stretch}: more than 64 bits hold"),
+    }
+}
+
+fn print_list<U: Bounded>(
+    rt: &impl Print,
+    pricing: &Pricing<U>,
+    indent: &str,
+    entries: &[Entry],
+) -> io::Result<()> {
     for entry in entries {
         let term = TermText(entry.term);
         let charge = ChargeText(entry.charge);
-        println!(rt, "{indent}{term}: {charge}")?;
+        let price = pricing.price(entry.charge);
+        println!(rt, "{indent}{term}: {charge}, price {price}")?;
     }
     Ok(())
 }

@@ -45,6 +45,7 @@ fn usage_word(usage: Usage) -> &'static str {
 fn layer_word(layer: Layer) -> &'static str {
     match layer {
         Layer::Reader => "reader",
+        Layer::Unit => "unit",
         Layer::Writer => "writer",
     }
 }
@@ -56,6 +57,8 @@ fn reason(fault: Fault) -> &'static str {
         Fault::BrokenLayout(offset) => layout_reason(offset),
         Fault::EmptyTariff => "a tariff indication without an entry",
         Fault::WrongDuration(_) => "the use of this entry does not allow its duration",
+        Fault::ForeignMark => "the mark is that of another charge unit",
+        Fault::NotAdmitted(_) => "the unit does not admit this charge for its use",
         Fault::NoRoom(_) => "so many bytes are needed",
     }
 }

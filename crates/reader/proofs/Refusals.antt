@@ -7,7 +7,7 @@ use native.Mathlib.Omega.{arith}
 use Rattle.std.specs.declared.option.Option.the-variants.{Some, None}
 use Rattle.indication.specs.declared.header.Kind.{Kind}
 use Rattle.indication.specs.declared.fault.Fault.{Fault}
-use Rattle.indication.specs.declared.fault.Fault.the-variants.{WrongLength, BrokenLayout, EmptyTariff, WrongDuration, NoRoom}
+use Rattle.indication.specs.declared.fault.Fault.the-variants.{WrongLength, BrokenLayout, EmptyTariff, WrongDuration, ForeignMark, NotAdmitted, NoRoom}
 use Rattle.indication.specs.Rules.{First, WrongLengthAt, BrokenHeader, BrokenUse, DisallowedAt, IsEmpty, Grounds, Precedes, Refused, Accepted}
 
 -- the header's bytes come before the uses
@@ -26,6 +26,8 @@ module _ (taken : Kind) (b : List ℕ) (right-length : First (WrongLengthAt b) N
   header-first at h (BrokenLayout x) (inr w) = inr (refl, omega (arith, in-header taken b at (h .0), past-header b x w))
   header-first at h EmptyTariff w = inl (omega arith)
   header-first at h (WrongDuration x) w = inl (omega arith)
+  header-first at h ForeignMark w = elim w [ ]
+  header-first at h (NotAdmitted x) w = elim w [ ]
   header-first at h (NoRoom x) w = elim w [ ]
 
   pub header-refused : (at : ℕ) → First (BrokenHeader taken b) (Some at) → Refused taken b (BrokenLayout at)
@@ -38,6 +40,8 @@ module _ (taken : Kind) (b : List ℕ) (right-length : First (WrongLengthAt b) N
     use-first at h (BrokenLayout x) (inr w) = inr (refl, h .1 x w)
     use-first at h EmptyTariff w = inl (omega arith)
     use-first at h (WrongDuration x) w = inl (omega arith)
+    use-first at h ForeignMark w = elim w [ ]
+    use-first at h (NotAdmitted x) w = elim w [ ]
     use-first at h (NoRoom x) w = elim w [ ]
 
     pub use-refused : (at : ℕ) → First (BrokenUse b) (Some at) → Refused taken b (BrokenLayout at)
@@ -50,6 +54,8 @@ module _ (taken : Kind) (b : List ℕ) (right-length : First (WrongLengthAt b) N
       empty-first (BrokenLayout x) (inr w) = absurd (right-uses x w)
       empty-first EmptyTariff w = inr (refl, omega arith)
       empty-first (WrongDuration x) w = inl (omega arith)
+      empty-first ForeignMark w = elim w [ ]
+      empty-first (NotAdmitted x) w = elim w [ ]
       empty-first (NoRoom x) w = elim w [ ]
 
       pub empty-refused : IsEmpty b → Refused taken b EmptyTariff
@@ -62,6 +68,8 @@ module _ (taken : Kind) (b : List ℕ) (right-length : First (WrongLengthAt b) N
         duration-first at h (BrokenLayout x) (inr w) = absurd (right-uses x w)
         duration-first at h EmptyTariff w = absurd (not-empty w)
         duration-first at h (WrongDuration x) w = inr (refl, h .1 x w)
+        duration-first at h ForeignMark w = elim w [ ]
+        duration-first at h (NotAdmitted x) w = elim w [ ]
         duration-first at h (NoRoom x) w = elim w [ ]
 
         pub duration-refused : (at : ℕ) → First (DisallowedAt b) (Some at) → Refused taken b (WrongDuration at)
@@ -73,4 +81,6 @@ module _ (taken : Kind) (b : List ℕ) (right-length : First (WrongLengthAt b) N
         accepted h (BrokenLayout x) (inr w) = right-uses x w
         accepted h EmptyTariff w = not-empty w
         accepted h (WrongDuration x) w = h x w
+        accepted h ForeignMark w = elim w [ ]
+        accepted h (NotAdmitted x) w = elim w [ ]
         accepted h (NoRoom x) w = elim w [ ]

@@ -1,5 +1,6 @@
 ghost use Rattle.indication.specs.Format.{chargeAt, contentOf, currentCount, decoded, encoded, headerOf, ifEntry, nextCount, termAt};
 ghost use Rattle.indication.specs.Rules.{Accepted, Refused};
+ghost use Rattle.reader.specs.Readers.{lent};
 ghost use Rattle.std.specs.Results.{Cases};
 ghost use mathlib.Core.Path.{_≡_};
 use crate::bytes::byte;
@@ -29,7 +30,7 @@ pub struct Reader<'a> {
 impl<'a> Reader<'a> {
     // Takes well-formed indications of the kind that the caller takes, and refuses all else.
     pub fn read(bytes: &'a [u8], taken: Kind) -> Result<Reader<'a>, Fault>
-        ensures { λ r. ⌜ Cases r (λ i. Accepted taken (now (bytes .entry)) × (now (i .bytes) ≡ now (bytes .entry))) (λ f. Refused taken (now (bytes .entry)) f) ⌝ }
+        ensures { λ r. ⌜ Cases r (λ i. Accepted taken (now (bytes .entry)) × (lent i ≡ now (bytes .entry))) (λ f. Refused taken (now (bytes .entry)) f) ⌝ }
     {
         if let Some(offset) = wrong_length(bytes) {
             return Err(Fault::WrongLength(offset));
@@ -51,28 +52,28 @@ impl<'a> Reader<'a> {
 
     // What the indication says beside its entries.
     pub fn header(&self) -> Header
-        ensures { λ r. ⌜ r ≡ headerOf (now (now (self .entry) .bytes)) ⌝ }
+        ensures { λ r. ⌜ r ≡ headerOf (lent (now (self .entry))) ⌝ }
     {
         header_of(self.bytes)
     }
 
     // How many entries the current tariff has; they come first.
-    pub fn current_count(&self) -> usize
-        ensures { λ r. ⌜ r ≡ currentCount (now (now (self .entry) .bytes)) ⌝ }
+    pub fn current_count(&self) -> u8
+        ensures { λ r. ⌜ r ≡ currentCount (lent (now (self .entry))) ⌝ }
     {
-        byte(self.bytes, 0) as usize
+        byte(self.bytes, 0)
     }
 
     // How many entries the next tariff has; they follow the current one's.
-    pub fn next_count(&self) -> usize
-        ensures { λ r. ⌜ r ≡ nextCount (now (now (self .entry) .bytes)) ⌝ }
+    pub fn next_count(&self) -> u8
+        ensures { λ r. ⌜ r ≡ nextCount (lent (now (self .entry))) ⌝ }
     {
-        byte(self.bytes, 1) as usize
+        byte(self.bytes, 1)
     }
 
     // The charge of entry i, where there is such an entry.
     pub fn charge(&self, i: usize) -> Option<Charge>
-        ensures { λ r. ⌜ r ≡ ifEntry (now (now (self .entry) .bytes)) i (chargeAt (now (now (self .entry) .bytes)) i) ⌝ }
+        ensures { λ r. ⌜ r ≡ ifEntry (lent (now (self .entry))) i (chargeAt (lent (now (self .entry))) i) ⌝ }
     {
         if i >= entry_count(self.bytes) {
             return None;
@@ -82,7 +83,7 @@ impl<'a> Reader<'a> {
 
     // The term of entry i, where there is such an entry.
     pub fn term(&self, i: usize) -> Option<Term>
-        ensures { λ r. ⌜ r ≡ ifEntry (now (now (self .entry) .bytes)) i (termAt (now (now (self .entry) .bytes)) i) ⌝ }
+        ensures { λ r. ⌜ r ≡ ifEntry (lent (now (self .entry))) i (termAt (lent (now (self .entry))) i) ⌝ }
     {
         if i >= entry_count(self.bytes) {
             return None;
@@ -92,8 +93,8 @@ impl<'a> Reader<'a> {
 
     // The indication as a value of its own. Written again, an accepted one gives the same bytes.
     pub fn indication(&self) -> Indication
-        ensures says { λ r. ⌜ contentOf r ≡ decoded (now (now (self .entry) .bytes)) ⌝ }
-        ensures again { λ r. ⌜ ((taken : Kind) → Accepted taken (now (now (self .entry) .bytes)) → encoded (contentOf r) ≡ now (now (self .entry) .bytes)) ⌝ }
+        ensures says { λ r. ⌜ contentOf r ≡ decoded (lent (now (self .entry))) ⌝ }
+        ensures again { λ r. ⌜ ((taken : Kind) → Accepted taken (lent (now (self .entry))) → encoded (contentOf r) ≡ lent (now (self .entry))) ⌝ }
     {
         indication_of(self.bytes)
     }

@@ -1,0 +1,4 @@
+pub mod Meanings
+pub mod Admission
+pub mod Currencies
+pub mod PulseCounts
