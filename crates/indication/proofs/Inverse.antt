@@ -1,10 +1,8 @@
 -- The bytes of what accepted bytes say are those bytes.
 use Prim.Native.Nat.{ℕ, zero, suc, _+_, _*_, _<_, _≤_}
 use mathlib.Core.Path.{_≡_, refl, sym, ap, _∙_}
-use mathlib.Core.List.{List, [], _∷_, _++_, map, append-assoc}
-use mathlib.Core.Bool.{cond}
-use lib.ListN.{length, take}
-use lib.Dec.{eqb}
+use mathlib.Core.List.{List, _++_, map}
+use lib.ListN.{length}
 use mir.Syntax.{w16}
 use mir.Val.{toZ, ofZ}
 use native.Mathlib.Nat.{add-zero}
@@ -14,12 +12,11 @@ use Rattle.std.specs.Joined.{joined}
 use Rattle.std.proofs.shelf.Signed.{ofZ-toZ}
 use Rattle.std.proofs.shelf.Counted.{length-map-counting}
 use Rattle.std.proofs.shelf.Lists.{take-all, map-append}
-use Rattle.std.proofs.shelf.Ways.{tells}
 use Rattle.indication.specs.declared.header.Kind.{Kind}
 use Rattle.indication.specs.declared.header.Kind.the-variants as kind
 use Rattle.indication.specs.Numbers.{value, bigEndian}
 use Rattle.indication.specs.Codes.{kindCode, changeCode, controlCode, usageCode, kindOf, changeOf, controlOf, usageOf}
-use Rattle.indication.specs.Format.{byte, part, currentCount, nextCount, entryCount, fullLength, chargeOffset, termOffset, entryAt, headerOf, decoded, chargeBytes, termBytes, headerBytes, entries, encoded}
+use Rattle.indication.specs.Format.{byte, part, currentCount, nextCount, entryCount, chargeOffset, termOffset, entryAt, headerOf, decoded, chargeBytes, termBytes, headerBytes, entries, encoded}
 use Rattle.indication.specs.Rules.{Accepted}
 use Rattle.indication.proofs.Digits.{Bytes, value-lt, bigEndian-value}
 use Rattle.indication.proofs.Spans.{counting-append, part-append, part-all, joined-parts, joined-map}

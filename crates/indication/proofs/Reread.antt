@@ -1,5 +1,5 @@
 -- What the bytes of a content say is that content.
-use Prim.Native.Nat.{ℕ, _+_, _*_, _%_, _^_, _<_, _≤_}
+use Prim.Native.Nat.{ℕ, _+_, _*_, _^_, _<_}
 use mathlib.Core.Path.{_≡_, refl, sym, ap, _∙_}
 use mathlib.Core.List.{List, [], _∷_, _++_, map, append-assoc, append-nil}
 use lib.ListN.{length, getD, take}
@@ -26,9 +26,9 @@ use Rattle.indication.specs.declared.entry.Usage.the-variants as usage
 use Rattle.indication.specs.declared.entry.Entry.{Entry}
 use Rattle.indication.specs.Numbers.{value, bigEndian}
 use Rattle.indication.specs.Codes.{kindCode, changeCode, controlCode, usageCode, kindOf, changeOf, controlOf, usageOf}
-use Rattle.indication.specs.Format.{byte, part, currentCount, nextCount, entryCount, chargeOffset, termOffset, headerOf, entryAt, Content, decoded, chargeBytes, termBytes, firstEight, headerBytes, entries, encoded}
+use Rattle.indication.specs.Format.{byte, part, entryCount, chargeOffset, termOffset, headerOf, entryAt, Content, decoded, chargeBytes, termBytes, firstEight, headerBytes, entries, encoded}
 use Rattle.indication.specs.Fits.{Fits, ChargeFits, TermFits}
-use Rattle.indication.proofs.Digits.{length-bigEndian, value-bigEndian}
+use Rattle.indication.proofs.Digits.{value-bigEndian}
 use Rattle.indication.proofs.Spans.{part-append, part-at, part-joined, length-joined}
 
 -- a case is had back from its code

@@ -1,5 +1,5 @@
 -- The numbers of a content have the widths of their types, as those of every value of the program do.
-use Prim.Native.Nat.{ℕ, _^_, _<_, _≤_}
+use Prim.Native.Nat.{_^_, _<_, _≤_}
 use mathlib.Core.Path.{_≡_}
 use lib.ListN.{length}
 use mir.Syntax.{w16}

@@ -91,6 +91,7 @@ BrokenUse b at =
     (IsTariff b × (MisusedAt b 0 (currentCount b) at ⊎ MisusedAt b (currentCount b) (nextCount b) at))
     ⊎ (IsAddOn b × (at ≡ termOffset b 0) × (AddOn (byte b (termOffset b 0)) → ⊥))
 
+-- entry i is the last of its tariff
 abbrev pub IsLast : List ℕ → ℕ → Type 0
 IsLast b i = (i + 1 ≡ currentCount b) ⊎ (i + 1 ≡ entryCount b)
 

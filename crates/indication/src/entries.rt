@@ -3,7 +3,7 @@ ghost use lib.ListN.{length};
 ghost use mathlib.Core.Path.{_≡_};
 use crate::entry::Entry;
 
-// The entries of one tariff, at most six, in their order; none where the tariff is absent.
+/// The entries of one tariff, at most six, in their order; none where the tariff is absent.
 #[derive(Clone, Copy)]
 pub struct Entries {
     // the first `count` of these, and the others mean nothing

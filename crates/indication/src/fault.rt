@@ -1,7 +1,7 @@
 ghost use Rattle.indication.specs.Faults.{numberOf, layerOf, offsetOf};
 ghost use mathlib.Core.Path.{_≡_};
 
-// The layer that raises a refusal.
+/// The layer that raises a refusal.
 #[derive(Clone, Copy, PartialEq, Eq, Debug)]
 pub enum Layer {
     Reader,
@@ -9,22 +9,22 @@ pub enum Layer {
     Writer,
 }
 
-// Why an indication is refused, with the offset of the byte that shows it.
+/// Why an indication is refused, with the offset of the byte that shows it.
 #[derive(Clone, Copy, PartialEq, Eq, Debug)]
 pub enum Fault {
-    // the length is not the one that the two counts ask for
+    /// the length is not the one that the two counts ask for
     WrongLength(usize),
-    // a byte breaks the layout, the kind or the order of uses
+    /// a byte breaks the layout, the kind or the order of uses
     BrokenLayout(usize),
-    // a tariff indication without an entry
+    /// a tariff indication without an entry
     EmptyTariff,
-    // a length that its entry may not have
+    /// a length that its entry may not have
     WrongDuration(usize),
-    // the mark of another charge unit
+    /// the mark of another charge unit
     ForeignMark,
-    // a charge that the unit does not admit for its use
+    /// a charge that the unit does not admit for its use
     NotAdmitted(usize),
-    // the buffer has not the room that is needed: so many bytes
+    /// the buffer has not the room that is needed: so many bytes
     NoRoom(usize),
 }
 

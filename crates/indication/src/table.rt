@@ -26,7 +26,7 @@ impl Entries {
         }
     }
 
-    // One entry more, at the end; given back where there are six already.
+    /// One entry more, at the end; given back where there are six already.
     pub fn push(&mut self, entry: Entry) -> Result<(), Entry>
         ensures { λ r. ⌜ Cases r (λ _. (length (listed (now (self .entry))) < 6) × (listed (now (self .exit)) ≡ listed (now (self .entry)) ++ entry ∷ [])) (λ back. (length (listed (now (self .entry))) ≡ 6) × (listed (now (self .exit)) ≡ listed (now (self .entry))) × (back ≡ entry)) ⌝ }
     {

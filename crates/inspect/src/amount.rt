@@ -5,7 +5,7 @@ use std::fmt;
 /// What the amounts of a unit are called.
 #[derive(Clone, Copy)]
 pub enum Denomination {
-    // units of 0.0000001 EUR
+    /// units of 0.0000001 EUR
     Euro,
     Pulse,
 }

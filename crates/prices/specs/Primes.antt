@@ -1,11 +1,9 @@
 -- A unit whose charges are taken at the offsets that are primes below 100.
 use Prim.Native.Nat.{ℕ}
-use mathlib.Core.Bool.{Bool, true, false, _&&_, _||_, cond}
+use mathlib.Core.Bool.{Bool, false, _&&_, _||_, cond}
 use mathlib.Core.List.{List, [], _∷_}
 use lib.Dec.{leb, eqb}
 use Rattle.indication.specs.declared.entry.Charge.{Charge}
-use Rattle.indication.specs.declared.entry.Usage.{Usage}
-use Rattle.indication.specs.declared.header.Mark.{Mark}
 use Rattle.units.specs.Meanings.{Meaning, lasting}
 
 -- j is one of the numbers

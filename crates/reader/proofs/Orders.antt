@@ -1,10 +1,10 @@
 -- The uses up to the k-th are in order just where those before it are and it goes on with them.
-use Prim.Native.Nat.{ℕ, suc, _+_, _-_, _<_, _≤_}
+use Prim.Native.Nat.{ℕ, _+_, _-_, _<_}
 use mathlib.Core.Path.{_≡_}
 use mathlib.Core.Logic.{_⊎_, inl, inr, ⊎-elim}
 use native.Mathlib.Omega.{arith}
 use Rattle.std.proofs.shelf.Tests.{cases-lt}
-use Rattle.indication.specs.Rules.{InOrder, Attempt, SetUp, Subtariff}
+use Rattle.indication.specs.Rules.{InOrder, Attempt}
 use Rattle.reader.specs.Order.{GoesOn}
 
 -- a use before the subtariffs is none

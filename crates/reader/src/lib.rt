@@ -1,4 +1,4 @@
-// Reads an indication out of the bytes that the caller lends.
+//! Reads an indication out of the bytes that the caller lends.
 mod bytes;
 mod codes;
 mod durations;

@@ -1,7 +1,6 @@
 ghost use Prim.Native.Nat.{_<_};
-ghost use Rattle.indication.specs.Rules.{BrokenUse, First, InOrder, MisusedAt, Tells, usesFrom};
+ghost use Rattle.indication.specs.Rules.{BrokenUse, First, MisusedAt, Tells, usesFrom};
 ghost use Rattle.reader.specs.Order.{GoesOn};
-ghost use mathlib.Core.Path.{_≡_};
 use crate::bytes::byte;
 use crate::bytes::term_offset;
 use indication::entry::Usage;

@@ -1,4 +1,4 @@
-// Tariffs: what an operator charges in one call.
+//! Tariffs: what an operator charges in one call.
 mod making;
 mod pass;
 mod rounds;

@@ -12,7 +12,7 @@ use indication::entry::UsagePartialEq;
 use indication::header::TariffControl;
 
 impl Tariff {
-    // The tariff that the entries of an indication say.
+    /// The tariff that the entries of an indication say.
     pub fn of(control: TariffControl, entries: &[Entry]) -> Tariff
         ensures { λ r. ⌜ r ≡ tariffOf control (now (entries .entry)) ⌝ }
     {

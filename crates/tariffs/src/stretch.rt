@@ -13,7 +13,7 @@ use indication::header::TariffControl;
 use units::unit::Bounded;
 
 impl Tariff {
-    // What the tariff charges over `seconds` seconds from elapsed second `from` on; `None` where that does not fit.
+    /// What the tariff charges over `seconds` seconds from elapsed second `from` on; `None` where that does not fit.
     pub fn price_of_stretch<U: Bounded>(&self, unit: &U, from: u32, seconds: u32) -> Option<u64>
         ensures sum { λ r. ⌜ Priced r (charged (U·Unit .meaning (now (unit .entry))) (now (self .entry)) from seconds) ⌝ }
         ensures fits { λ r. ⌜ (All (Admitted (U·Unit .meaning (now (unit .entry)))) (sequence (now (self .entry))) → seconds ≤ 86400 → isSome r ≡ true) ⌝ }

@@ -1,7 +1,7 @@
 use indication::entry::Charge;
 use indication::header::TariffControl;
 
-// When a subtariff takes its charge: again and again while it lasts, or whole at its first second.
+/// When a subtariff takes its charge: again and again while it lasts, or whole at its first second.
 #[derive(Clone, Copy)]
 pub enum Charging {
     Periodic,
@@ -12,12 +12,12 @@ pub enum Charging {
 pub struct Subtariff {
     pub charge: Charge,
     pub charging: Charging,
-    // in seconds; 0 is without end
+    /// in seconds; 0 is without end
     pub duration: u16,
 }
 
-// What an operator charges in one call. The sequence is that of the subtariffs in the slots, and empty slots mean
-// nothing.
+/// What an operator charges in one call. The sequence is that of the subtariffs in the slots, and empty slots mean
+/// nothing.
 #[derive(Clone, Copy)]
 pub struct Tariff {
     pub attempt: Option<Charge>,

@@ -1,13 +1,11 @@
 -- Currency: euros, in units of 0.0000001 EUR. A charge is a factor (size) and a scale (step), and is taken every second.
-use Prim.Native.Nat.{ℕ, _*_, _^_}
-use mathlib.Core.Bool.{Bool, true, _&&_, cond}
-use mathlib.Core.List.{[], _∷_}
+use Prim.Native.Nat.{_*_, _^_}
+use mathlib.Core.Bool.{Bool, _&&_, cond}
 use lib.Dec.{leb, eqb}
 use lib.IntN.{pos, negsuc, _+ℤ_, natAbs}
 use lib.ListN.{getD}
 use lib.Signed.{leZ}
 use Rattle.indication.specs.declared.entry.Charge.{Charge}
-use Rattle.indication.specs.declared.entry.Usage.{Usage}
 use Rattle.indication.specs.declared.header.Mark.{Mark}
 use Rattle.units.specs.Meanings.{Meaning, lasting}
 

@@ -1,6 +1,6 @@
 -- Pulses: a charge is a number of pulses (size), and for periodic use the interval in seconds at which they come (step).
 use Prim.Native.Nat.{ℕ, _+_, _/_, _%_, min}
-use mathlib.Core.Bool.{Bool, true, _&&_, cond}
+use mathlib.Core.Bool.{Bool, _&&_, cond}
 use lib.Dec.{leb, eqb}
 use lib.IntN.{ℤ, pos, natAbs}
 use lib.ListN.{getD}

@@ -14,7 +14,7 @@ use indication::fault::Fault;
 use indication::header::Kind;
 use reader::Reader;
 
-// Takes the indications that the reader takes, whose mark is the unit's and whose charges the unit admits.
+/// Takes the indications that the reader takes, whose mark is the unit's and whose charges the unit admits.
 pub fn read_for<'a, U: Bounded>(bytes: &'a [u8], taken: Kind, unit: &U) -> Result<Reader<'a>, Fault>
     ensures { λ r. ⌜ Cases r (λ i. Groundless (UnitGrounds (U·Unit .meaning (now (unit .entry))) taken (now (bytes .entry))) × (lent i ≡ now (bytes .entry))) (λ f. Foremost (UnitGrounds (U·Unit .meaning (now (unit .entry))) taken (now (bytes .entry))) f) ⌝ }
 {

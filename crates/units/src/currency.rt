@@ -5,7 +5,7 @@ use indication::entry::Charge;
 use indication::entry::Usage;
 use indication::header::Mark;
 
-// Euros, in units of 0.0000001 EUR.
+/// Euros, in units of 0.0000001 EUR.
 #[derive(Clone, Copy)]
 pub struct Currency;
 

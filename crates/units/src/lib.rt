@@ -1,4 +1,4 @@
-// Charge units: what a charge is worth.
+//! Charge units: what a charge is worth.
 pub mod admission;
 pub mod currency;
 pub mod limit;

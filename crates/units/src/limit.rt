@@ -4,7 +4,7 @@ use indication::entry::Charge;
 use indication::entry::Usage;
 use indication::header::Mark;
 
-// A unit under a price limit: it means what the unit below it means, and admits no charge that costs more than 10^9.
+/// A unit under a price limit: it means what the unit below it means, and admits no charge that costs more than 10^9.
 #[derive(Clone, Copy)]
 pub struct PriceLimit<U> {
     pub unit: U,

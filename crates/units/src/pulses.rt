@@ -8,7 +8,7 @@ use indication::entry::Charge;
 use indication::entry::Usage;
 use indication::header::Mark;
 
-// Pulses, each worth one.
+/// Pulses, each worth one.
 #[derive(Clone, Copy)]
 pub struct Pulses;
 

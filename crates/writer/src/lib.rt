@@ -1,4 +1,4 @@
-// Writes an indication into a buffer that the caller lends.
+//! Writes an indication into a buffer that the caller lends.
 mod encoding;
 mod fields;
 mod parts;

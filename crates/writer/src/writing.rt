@@ -8,7 +8,7 @@ use indication::fault::Fault;
 use indication::value::Indication;
 use reader::Reader;
 
-// Writes the indication's bytes to the front of the buffer, and answers how many they are.
+/// Writes the indication's bytes to the front of the buffer, and answers how many they are.
 pub fn write(indication: &Indication, out: &mut [u8]) -> Result<usize, Fault>
     ensures { λ r. ⌜ Cases r (λ n. Written (contentOf (now (indication .entry))) (now (out .entry)) (now (out .exit)) n) (λ f. Unwritable (contentOf (now (indication .entry))) (length (now (out .entry))) f × (now (out .exit) ≡ now (out .entry))) ⌝ }
 {

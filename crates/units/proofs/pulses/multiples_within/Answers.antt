@@ -1,5 +1,4 @@
-use Prim.Native.Nat.{_-_, _≤_, _%_}
-use mathlib.Core.Path.{_≡_}
+use Prim.Native.Nat.{_-_, _%_}
 use lib.Dec.{eqb}
 use native.Mathlib.Omega.{arith}
 use Rattle.units.proofs.Counts.{counted-le}

@@ -1,7 +1,6 @@
 use mathlib.Core.Path.{_≡_}
 use borrow.Author.Needs.{needs}
 use Rattle.indication.specs.Numbers.{bigEndian}
-use Rattle.writer.specs.Encodings.{written}
 use Rattle.writer.proofs.Steps.{header-laid, last-byte}
 use Rattle.writer.proofs.encoding.Encoding.put_header.Needs as need
 
