@@ -56,7 +56,7 @@ impl<U: Bounded> Pricing<U> {
 }
 
 /// Prints what a line says; `None` is a line that is too long.
-pub fn print_line<U: Bounded>(
+pub(crate) fn print_line<U: Bounded>(
     rt: &impl Print,
     pricing: &Pricing<U>,
     number: u64,

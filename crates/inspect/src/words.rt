@@ -11,21 +11,21 @@ use indication::header::Mark;
 use indication::header::TariffControl;
 use std::fmt;
 
-pub fn kind_word(kind: Kind) -> &'static str {
+pub(crate) fn kind_word(kind: Kind) -> &'static str {
     match kind {
         Kind::Tariff => "tariff",
         Kind::AddOn => "add-on",
     }
 }
 
-pub fn change_word(change: Change) -> &'static str {
+pub(crate) fn change_word(change: Change) -> &'static str {
     match change {
         Change::WithoutRestart => "without restart",
         Change::WithRestart => "with restart",
     }
 }
 
-pub fn control_word(control: TariffControl) -> &'static str {
+pub(crate) fn control_word(control: TariffControl) -> &'static str {
     match control {
         TariffControl::Cyclic => "cyclic",
         TariffControl::NonCyclic => "not cyclic",
