@@ -1,4 +1,7 @@
 //! Tests of the reader and the writer at the limits of what an indication may say, and just past them.
+
+#![tactic(auto)]
+
 #[cfg(test)]
 mod bases;
 #[cfg(test)]

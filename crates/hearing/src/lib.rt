@@ -1,5 +1,8 @@
 //! The refusals that the record of a call gives are those of the journal. Each function stands for the law that its contract
 //! states.
+
+#![tactic(auto)]
+
 ghost use Rattle.hearing.specs.Hearing.{RefusalsAreHeard, WhatIsSaidIsAdmitted};
 
 // The record refuses what the journal refuses, with the same refusal.

@@ -1,4 +1,7 @@
 //! The binary form of an operator's indication: its typed values, the rules of the format, and the refusals.
+
+#![tactic(auto)]
+
 pub mod entries;
 pub mod entry;
 pub mod fault;

@@ -1,6 +1,9 @@
 //! Prints in words what the indications of standard input say and cost: one to a line, in hexadecimal.
 //! A line that holds none is told of, and the next one is read.
 //! The argument is the unit that they are read for: C for currency, P for pulses.
+
+#![tactic(auto)]
+
 mod amount;
 mod report;
 mod time;

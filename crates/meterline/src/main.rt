@@ -1,4 +1,7 @@
 //! Meters one call for an exchange: reads a command to a line from standard input, and answers each as it comes.
+
+#![tactic(auto)]
+
 mod input;
 mod serve;
 

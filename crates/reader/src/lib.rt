@@ -1,4 +1,7 @@
 //! Reads an indication out of the bytes that the caller lends.
+
+#![tactic(auto)]
+
 mod bytes;
 mod codes;
 mod durations;

@@ -1,4 +1,7 @@
 //! What an indication comes to where it is read for a unit: a refusal, or what it says.
+
+#![tactic(auto)]
+
 ghost use Rattle.std.specs.Prelude.{◌≡◌, ℕ, List};
 ghost use Rattle.readings.specs.Readings.{Reads, answered, reading};
 ghost use Rattle.units.specs.Meanings.{Meaning};

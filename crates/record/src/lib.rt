@@ -1,4 +1,7 @@
 //! The plain record of one call, and the rules by which it changes.
+
+#![tactic(auto)]
+
 pub mod call;
 mod events;
 pub mod operator;

@@ -1,2 +1,5 @@
 //! The record of a call, against what its requests add up to.
+
+#![tactic(auto)]
+
 mod laws;

@@ -1,4 +1,7 @@
 //! Tariffs: what an operator charges in one call.
+
+#![tactic(auto)]
+
 mod making;
 mod pass;
 mod rounds;

@@ -1,5 +1,8 @@
 //! What the record of a call tells, against what the definitions answer: each function stands for the law that its
 //! contract states.
+
+#![tactic(auto)]
+
 ghost use Rattle.told.specs.Telling.{LineTold, OwedTold, TotalTold};
 
 // The seats tell what a network is owed.

@@ -1,5 +1,8 @@
 //! Runs of several calls, for the gate to compare: each begins at a line with a name behind `#`, and is answered as
 //! `meterline` answers it.
+
+#![tactic(auto)]
+
 mod session;
 
 use lines::line::LineBuffer;

@@ -1,4 +1,7 @@
 //! Charge units: what a charge is worth.
+
+#![tactic(auto)]
+
 pub mod admission;
 pub mod currency;
 pub mod limit;

@@ -1,4 +1,7 @@
 //! Writes an indication into a buffer that the caller lends.
+
+#![tactic(auto)]
+
 mod encoding;
 mod fields;
 mod parts;
