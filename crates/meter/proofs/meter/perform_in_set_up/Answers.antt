@@ -7,15 +7,15 @@ use Rattle.meter.proofs.meter.perform_in_set_up.Goals as goal
 
 pub returns-in-Tariff : goal.returns-in-Tariff
 returns-in-Tariff g c =
-    let step = c.receive-tariff in
-    rw (c.in-Tariff.is, c.answer-for-answer.ensures)
+    let step = c.receive_tariff in
+    rw (c.in-Tariff.is, c.answer_for-answer.ensures)
     (indication_performs g.U.Unit.meaning g.met.U.Unit.sound (SetUp c.args.call) (SetUp step.new.self) step.ensures.same
     kind.Tariff c.in-Tariff.bytes.now step.result refl refl step.ensures.received)
 
 pub returns-in-Advance : goal.returns-in-Advance
 returns-in-Advance g c =
     let step = c.advance in
-    rw (c.in-Advance.is, c.answer-for-answer-in-Advance.ensures)
+    rw (c.in-Advance.is, c.answer_for-answer-in-Advance.ensures)
     (advance_performs g.U.Unit.meaning g.met.U.Unit.sound (SetUp c.args.call) (SetUp step.new.self) step.ensures.same
     c.in-Advance.seconds step.result refl refl step.ensures.passed)
 
@@ -31,8 +31,8 @@ returns-in-Release g c =
     rw c.in-Release.is
     (release_performs g.U.Unit.meaning g.met.U.Unit.sound (SetUp c.args.call) (Closed step.result) step.ensures.0 refl refl step.ensures.1)
 
-pub returns-in-default : goal.returns-in-default
-returns-in-default g c =
-    let other = c.in-default in
+pub returns-in_default : goal.returns-in_default
+returns-in_default g c =
+    let other = c.in_default in
     barred_performs g.U.Unit.meaning g.met.U.Unit.sound (SetUp c.args.call) _
     (barred_in_set_up (g.U.Unit.meaning c.args.call.unit) c.args.request other.not-Tariff other.not-Advance other.not-Start other.not-Release)

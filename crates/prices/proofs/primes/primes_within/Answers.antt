@@ -11,5 +11,5 @@ loop-k-preserved c = (
 
 pub returns : goal.returns
 returns c =
-    let end : c.loop-k.k ≡ min c.args.count (100 - c.args.from) = omega (arith, c.min-k-end.ensures, c.saturating-sub.ensures) in
+    let end : c.loop-k.k ≡ min c.args.count (100 - c.args.from) = omega (arith, c.min-k-end.ensures, c.saturating_sub.ensures) in
     c.loop-k.invariant.0 ∙ counted_below c.args.from c.args.count c.loop-k.k end

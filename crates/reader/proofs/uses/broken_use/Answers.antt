@@ -7,4 +7,4 @@ returns-in-Some c = found _ _ _ _ c.if-kind.true c.byte-kind.ensures c.byte-curr
 pub returns-then-kind : goal.returns-then-kind
 returns-then-kind c =
     left_to_next _ _ _ _ _ c.if-kind.true c.byte-kind.ensures c.byte-current.ensures c.byte-next.ensures
-    c.in-default.ensures c.misused-then-kind.ensures
+    c.in_default.ensures c.misused-then-kind.ensures

@@ -4,19 +4,19 @@ use Rattle.tariffs.specs.Making.{slotted, subtariff_of}
 use Rattle.tariffs.specs.Sequences.{listed}
 use Rattle.tariffs.proofs.Slots.{listed_more, filled_more, filled_kept}
 use Rattle.tariffs.proofs.making.first_subtariffs.Goals as goal
-use Rattle.tariffs.proofs.making.first_subtariffs.Goals.{then_is_some+then_count_lt4, else-is-some, else_is_some_via_then_is_some+else_count_lt4, else-is-some-via-else-is-some}
+use Rattle.tariffs.proofs.making.first_subtariffs.Goals.{then_is_some+then_count_lt4, else-is_some, else_is_some_via_then_is_some+else_count_lt4, else-is_some-via-else-is_some}
 
 pub loop-entry-preserved : goal.loop-entry-preserved
 loop-entry-preserved c =
-    let more = listed_more subtariff_of _ _ _ _ c.loop-entry-test.true c.subtariff-of-subtariff.ensures in
-    rw more (elim c.if-is-some.branch [
+    let more = listed_more subtariff_of _ _ _ _ c.loop-entry-test.true c.subtariff_of-subtariff.ensures in
+    rw more (elim c.if-is_some.branch [
       | then_is_some+then_count_lt4 w ↦
-          rw (w.slots-is, w.count-is) (filled_more _ _ _ _ _ (sym w.if-is-some.ensures) w.if-count-lt4.true c.loop-entry.invariant)
-      | else-is-some w ↦
+          rw (w.slots-is, w.count-is) (filled_more _ _ _ _ _ (sym w.if-is_some.ensures) w.if-count-lt4.true c.loop-entry.invariant)
+      | else-is_some w ↦
           rw (w.slots-is, w.count-is)
-          (filled_kept _ _ _ _ _ (elim w.else-is-some.branch [
+          (filled_kept _ _ _ _ _ (elim w.else-is_some.branch [
             | else_is_some_via_then_is_some+else_count_lt4 v ↦ inr v.if-count-lt4.false
-            | else-is-some-via-else-is-some v ↦ inl (sym v.if-is-some.ensures)
+            | else-is_some-via-else-is_some v ↦ inl (sym v.if-is_some.ensures)
           ]) c.loop-entry.invariant)
     ])
 

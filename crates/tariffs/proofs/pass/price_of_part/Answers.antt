@@ -7,5 +7,5 @@ pub returns : goal.returns
 returns g c =
     let m = g.U.Unit.meaning c.args.unit.now in
     let all = part m c.args.subtariff c.args.from c.args.seconds (omega arith) in
-    let is : c.price.result * c.times-taken-times.result ≡ sum (λ k. taken m c.args.subtariff (c.args.from + k)) c.args.seconds = cc in
-    subst (Priced c.checked-mul.result) is c.checked-mul.ensures
+    let is : c.price.result * c.times_taken-times.result ≡ sum (λ k. taken m c.args.subtariff (c.args.from + k)) c.args.seconds = cc in
+    subst (Priced c.checked_mul.result) is c.checked_mul.ensures

@@ -2,7 +2,7 @@ use Rattle.std.proofs.Common.{◌+◌, drop, sym, ap, ◌∙◌, arith}
 use Rattle.tariffs.specs.declared.tariff.Subtariff.{Subtariff}
 use Rattle.tariffs.proofs.Lengths.{length_after, length_all, length_none, length_endless, length_more}
 use Rattle.tariffs.proofs.rounds.round_length.Goals as goal
-use Rattle.tariffs.proofs.rounds.round_length.Goals.{in-Some+else_duration_eq0, in-default}
+use Rattle.tariffs.proofs.rounds.round_length.Goals.{in-Some+else_duration_eq0, in_default}
 
 pub returns-then-duration-eq0 : goal.returns-then-duration-eq0
 returns-then-duration-eq0 c =
@@ -22,8 +22,8 @@ loop-slot-preserved c =
                 ∙ sym (length_more so_far slots i (omega arith) _ w.in-Some.is (λ z. w.if-duration-eq0.false (is ∙ z))) ∙ c.loop-slot.invariant.0,
             omega arith,
           )
-      | in-default w ↦
-          (ap (λ n. length_after n (drop (i + 1) slots)) w.length-is ∙ sym (length_none so_far slots i (omega arith) w.in-default.is) ∙ c.loop-slot.invariant.0, omega arith)
+      | in_default w ↦
+          (ap (λ n. length_after n (drop (i + 1) slots)) w.length-is ∙ sym (length_none so_far slots i (omega arith) w.in_default.is) ∙ c.loop-slot.invariant.0, omega arith)
     ]
 
 pub returns : goal.returns

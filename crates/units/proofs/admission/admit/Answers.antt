@@ -21,6 +21,6 @@ returns g c taken b is ok =
     let m = g.U.Unit.meaning c.args.unit.now in (
       unit_accepted m taken b ok
           (ap (λ h. m.owns h.mark) (sym (c.header.ensures ∙ ap header_of is)) ∙ sym c.if-not-owns.ensures)
-          (moved m _ b None is c.in-default.ensures),
+          (moved m _ b None is c.in_default.ensures),
       is,
     )

@@ -6,15 +6,15 @@ use Rattle.writer.proofs.writing.write.Goals as goal
 
 pub returns : goal.returns
 returns c =
-    copied (content_of c.args.indication.now) _ c.as-slice-bytes.result.now c.args.out.now _ c.of-encoding.ensures.fits
-    c.of-encoding.ensures.bytes c.as-slice-bytes.ensures c.in-ok-read.ensures.0 (omega arith)
-    c.copy-from-slice.ensures.after
+    copied (content_of c.args.indication.now) _ c.as_slice-bytes.result.now c.args.out.now _ c.of-encoding.ensures.fits
+    c.of-encoding.ensures.bytes c.as_slice-bytes.ensures c.in-ok-read.ensures.0 (omega arith)
+    c.copy_from_slice.ensures.after
 
 pub returns-in-err-read : goal.returns-in-err-read
 returns-in-err-read c =
     let p = err_from_is_err_and c.from-residual.result c.from-residual.ensures.1 in
     rw (p.1, p.2) (
-      refused_as (content_of c.args.indication.now) _ c.as-slice-bytes.result.now _ _ c.of-encoding.ensures.bytes
-          c.as-slice-bytes.ensures c.in-err-read.ensures,
+      refused_as (content_of c.args.indication.now) _ c.as_slice-bytes.result.now _ _ c.of-encoding.ensures.bytes
+          c.as_slice-bytes.ensures c.in-err-read.ensures,
       refl,
     )

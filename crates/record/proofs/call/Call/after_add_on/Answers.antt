@@ -29,5 +29,5 @@ returns g c =
       found.1,
       c.in-ok-seat.ensures.below,
       add_on_received m call c.args.bytes.now _ read.1 _ c.header-network.ensures _ found.2 _ c.occupant.ensures _
-          c.indication.ensures.says _ _ c.add-on-price-amount.ensures c.owing.ensures,
+          c.indication.ensures.says _ _ c.add_on_price-amount.ensures c.owing.ensures,
     )

@@ -17,14 +17,14 @@ returns-in-err-seat g c =
     let read = c.in-ok-reader.ensures in
     rw (p.1, p.2)
     (finds_tariff (g.U.Unit.meaning c.args.unit.now) c.args.self.now c.args.bytes.now _ read.1 _ c.header-network.ensures _
-    c.current-count.ensures read.0 (Err c.in-err-seat.field-0.0) c.in-err-seat.ensures.is)
+    c.current_count.ensures read.0 (Err c.in-err-seat.field-0.0) c.in-err-seat.ensures.is)
 
 pub returns : goal.returns
 returns g c =
     let m = g.U.Unit.meaning c.args.unit.now in
     let call = c.args.self.now in
     let read = c.in-ok-reader.ensures in
-    let found = finds_tariff m call c.args.bytes.now _ read.1 _ c.header-network.ensures _ c.current-count.ensures read.0
+    let found = finds_tariff m call c.args.bytes.now _ read.1 _ c.header-network.ensures _ c.current_count.ensures read.0
     (Ok c.in-ok-seat.seat) c.in-ok-seat.ensures.is in (
       found.0,
       found.1,

@@ -8,11 +8,11 @@ invariant-of-self c = (omega arith, (search (rules, places), tt))
 
 pub returns : goal.returns
 returns c =
-    let same : length c.copy-from-slice.new.self ≡ length c.args.part.now = ap length c.copy-from-slice.ensures.after in
+    let same : length c.copy_from_slice.new.self ≡ length c.args.part.now = ap length c.copy_from_slice.ensures.after in
     record {
       bytes =
-          take-put_mid c.args.self.now.len _ c.args.self.now.bytes c.copy-from-slice.new.self
+          take-put_mid c.args.self.now.len _ c.args.self.now.bytes c.copy_from_slice.new.self
           (c.args.self.now.len + length c.args.part.now) (omega arith) (omega arith)
-          ∙ ap (λ ys. take c.args.self.now.len c.args.self.now.bytes ++ ys) c.copy-from-slice.ensures.after;
+          ∙ ap (λ ys. take c.args.self.now.len c.args.self.now.bytes ++ ys) c.copy_from_slice.ensures.after;
       len = search rules;
     }

@@ -7,9 +7,9 @@ use Rattle.writer.proofs.encoding.Encoding.put_charges.Goals as goal
 pub loop-entry-preserved : goal.loop-entry-preserved
 loop-entry-preserved c =
     let i = c.loop-entry.entry-index in (
-      piece_more charge_bytes c.args.entries.now i _ _ _ _ (omega arith) c.loop-entry.invariant.0 c.put.ensures.bytes c.charge-bytes.ensures.bytes,
+      piece_more charge_bytes c.args.entries.now i _ _ _ _ (omega arith) c.loop-entry.invariant.0 c.put.ensures.bytes c.charge_bytes.ensures.bytes,
       omega arith,
-      fits_more ChargeFits c.args.entries.now i (omega arith) c.loop-entry.invariant.2 c.charge-bytes.ensures.fits,
+      fits_more ChargeFits c.args.entries.now i (omega arith) c.loop-entry.invariant.2 c.charge_bytes.ensures.fits,
     )
 
 pub returns : goal.returns

@@ -7,9 +7,9 @@ use Rattle.writer.proofs.encoding.Encoding.put_terms.Goals as goal
 pub loop-entry-preserved : goal.loop-entry-preserved
 loop-entry-preserved c =
     let i = c.loop-entry.entry-index in (
-      piece_more term_bytes c.args.entries.now i _ _ _ _ (omega arith) c.loop-entry.invariant.0 c.put.ensures.bytes c.term-bytes.ensures.bytes,
+      piece_more term_bytes c.args.entries.now i _ _ _ _ (omega arith) c.loop-entry.invariant.0 c.put.ensures.bytes c.term_bytes.ensures.bytes,
       omega arith,
-      fits_more TermFits c.args.entries.now i (omega arith) c.loop-entry.invariant.2 c.term-bytes.ensures.fits,
+      fits_more TermFits c.args.entries.now i (omega arith) c.loop-entry.invariant.2 c.term_bytes.ensures.fits,
     )
 
 pub returns : goal.returns
