@@ -36,5 +36,5 @@ pub trait Unit {
 pub trait Bounded: Unit {
     /// Whether a charge may be written for a use and costs at most 10^9.
     fn admits(&self, charge: Charge, usage: Usage) -> bool
-        ensures { result ≡ admitted (meaning self.now) charge usage };
+        ensures { result ≡ admitted (Self.meaning self.now) charge usage };
 }

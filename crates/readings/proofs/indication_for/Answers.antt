@@ -5,19 +5,19 @@ use Rattle.readings.specs.Readings.{refused}
 use Rattle.readings.proofs.Right.{reading_right, reads_computed}
 use Rattle.readings.proofs.indication_for.Goals as goal
 
-pub returns-in-err-reader : goal.returns-in-err-reader
-returns-in-err-reader g c =
+pub returns-in_err-reader : goal.returns-in_err-reader
+returns-in_err-reader g c =
     let m = g.U.Unit.meaning c.args.unit.now in
-    let p = err_from_is_err_and c.from-residual.result c.from-residual.ensures.1 in
+    let p = err_from_is_err_and c.from_residual.result c.from_residual.ensures.1 in
     record {
-      computed = rw (p.1, p.2) (reads_computed m c.args.taken c.args.bytes.now (refused _) c.in-err-reader.ensures);
+      computed = rw (p.1, p.2) (reads_computed m c.args.taken c.args.bytes.now (refused _) c.in_err-reader.ensures);
       right = reading_right;
     }
 
 pub returns : goal.returns
 returns g c =
     let m = g.U.Unit.meaning c.args.unit.now in
-    let read = c.in-ok-reader.ensures in
+    let read = c.in_ok-reader.ensures in
     record {
       computed = reads_computed m c.args.taken c.args.bytes.now _ (read.0, c.indication.ensures.says ∙ ap decoded read.1);
       right = reading_right;

@@ -3,8 +3,8 @@ use Rattle.std.proofs.lemmas.List.{places}
 use Rattle.std.proofs.lemmas.Slice.{take-put_mid}
 use Rattle.writer.proofs.encoding.Encoding.put.Goals as goal
 
-pub invariant-of-self : goal.invariant-of-self
-invariant-of-self c = (omega arith, (search (rules, places), tt))
+pub invariant_of-self : goal.invariant_of-self
+invariant_of-self c = record { few = omega arith; long = search (rules, places) }
 
 pub returns : goal.returns
 returns c =
