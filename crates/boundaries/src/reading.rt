@@ -233,7 +233,7 @@ fn answer(bytes: &[u8], taken: Kind) -> Outcome {
     }
 }
 
-fn run_case(rt: &impl Abort, base: Text, taken: Kind, case: &Case) -> Result<(), Fail> {
+fn run_case(rt: &impl Abort, name: &str, base: Text, taken: Kind, case: &Case) -> Result<(), Fail> {
     let Case(changes, length, expected) = case;
     let bytes = changed(base, changes)?;
     if *length > ROOM {
@@ -242,27 +242,33 @@ fn run_case(rt: &impl Abort, base: Text, taken: Kind, case: &Case) -> Result<(),
     assert_eq!(rt;
         answer(&bytes[0..*length], taken),
         *expected,
-        "{changes:?}, {length} bytes"
+        "{name}: {changes:?}, {length} bytes"
     );
     Ok(())
 }
 
-fn run(rt: &impl Abort, base: Text, taken: Kind, cases: &[Case]) -> Result<(), Fail> {
+fn run(rt: &impl Abort, name: &str, base: Text, taken: Kind, cases: &[Case]) -> Result<(), Fail> {
     for case in cases {
-        run_case(rt, base, taken, case)?;
+        run_case(rt, name, base, taken, case)?;
     }
     Ok(())
 }
 
 #[test]
 fn tariffs(rt: HostRuntime) -> Result<(), Fail> {
-    run(&rt, ONE, Kind::Tariff, &ONE_CASES).note("one entry")?;
-    run(&rt, BOTH, Kind::Tariff, &BOTH_CASES).note("both tariffs")?;
-    run(&rt, FULL, Kind::Tariff, &FULL_CASES).note("full tariffs")
+    run(&rt, "one entry", ONE, Kind::Tariff, &ONE_CASES)?;
+    run(&rt, "both tariffs", BOTH, Kind::Tariff, &BOTH_CASES)?;
+    run(&rt, "full tariffs", FULL, Kind::Tariff, &FULL_CASES)
 }
 
 #[test]
 fn add_ons(rt: HostRuntime) -> Result<(), Fail> {
-    run(&rt, ADD_ON, Kind::AddOn, &ADD_ON_CASES).note("an add-on")?;
-    run(&rt, ADD_ON, Kind::Tariff, &UNTAKEN_CASES).note("an add-on, not taken")
+    run(&rt, "an add-on", ADD_ON, Kind::AddOn, &ADD_ON_CASES)?;
+    run(
+        &rt,
+        "an add-on, not taken",
+        ADD_ON,
+        Kind::Tariff,
+        &UNTAKEN_CASES,
+    )
 }

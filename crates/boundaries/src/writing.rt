@@ -42,18 +42,25 @@ fn holds(buffer: &[u8], bytes: &[u8]) -> bool {
 // Writes into a buffer with so much room, and checks the answer and what then stands at its front.
 fn writes(
     rt: &impl Abort,
+    name: &str,
     indication: &Indication,
     room: usize,
     answer: Answer,
     bytes: &[u8],
-) -> Result<(), Fail> {
+) {
     let mut buffer = [FILL; ROOM];
-    assert_eq!(rt; written(indication, &mut buffer, room), answer);
-    assert!(rt; holds(&buffer, bytes), "the buffer");
-    Ok(())
+    assert_eq!(rt;
+        written(indication, &mut buffer, room),
+        answer,
+        "{name}, room for {room}"
+    );
+    assert!(rt;
+        holds(&buffer, bytes),
+        "{name}, room for {room}: the buffer"
+    );
 }
 
-fn round_trip(rt: &impl Abort, base: Text, taken: Kind) -> Result<(), Fail> {
+fn round_trip(rt: &impl Abort, name: &str, base: Text, taken: Kind) -> Result<(), Fail> {
     let mut buffer = [0u8; ROOM];
     let length = decode(base, &mut buffer)?;
     let bytes = &buffer[0..length];
@@ -61,25 +68,27 @@ fn round_trip(rt: &impl Abort, base: Text, taken: Kind) -> Result<(), Fail> {
         return Err(Fail::new("the reader refuses it"));
     };
     let indication = reader.indication();
-    writes(rt, &indication, ROOM, Ok(length), bytes).note("room to spare")?;
-    writes(rt, &indication, length, Ok(length), bytes).note("just the room")?;
+    writes(rt, name, &indication, ROOM, Ok(length), bytes);
+    writes(rt, name, &indication, length, Ok(length), bytes);
+    let refusal = Err((7, length));
     writes(
         rt,
+        name,
         &indication,
         length.saturating_sub(1),
-        Err((7, length)),
+        refusal,
         &[],
-    )
-    .note("a byte too few")?;
-    writes(rt, &indication, 0, Err((7, length)), &[]).note("no room")
+    );
+    writes(rt, name, &indication, 0, refusal, &[]);
+    Ok(())
 }
 
 #[test]
 fn round_trips(rt: HostRuntime) -> Result<(), Fail> {
-    round_trip(&rt, ONE, Kind::Tariff).note("one entry")?;
-    round_trip(&rt, BOTH, Kind::Tariff).note("both tariffs")?;
-    round_trip(&rt, FULL, Kind::Tariff).note("full tariffs")?;
-    round_trip(&rt, ADD_ON, Kind::AddOn).note("an add-on")
+    round_trip(&rt, "one entry", ONE, Kind::Tariff)?;
+    round_trip(&rt, "both tariffs", BOTH, Kind::Tariff)?;
+    round_trip(&rt, "full tariffs", FULL, Kind::Tariff)?;
+    round_trip(&rt, "an add-on", ADD_ON, Kind::AddOn)
 }
 
 const MARK: Mark = Mark {
@@ -193,8 +202,9 @@ fn refuses(rt: HostRuntime) -> Result<(), Fail> {
             current: entries(current),
             next: entries(next),
         };
-        writes(&rt, &indication, ROOM, Err(*refusal), &[]).note(format_args!("value {i}"))?;
-        writes(&rt, &indication, 0, Err(*refusal), &[]).note(format_args!("value {i}, no room"))?;
+        let name = format!(in rt.alloc(); "value {i}")?;
+        writes(&rt, name.as_str(), &indication, ROOM, Err(*refusal), &[]);
+        writes(&rt, name.as_str(), &indication, 0, Err(*refusal), &[]);
     }
     Ok(())
 }

@@ -1,5 +1,5 @@
 -- The uses up to the k-th are in order just where those before it are and it goes on with them.
-use Rattle.std.proofs.Common.{◌≡◌, ℕ, ◌+◌, ◌-◌, ◌<◌, ◌⊎◌, inl, inr, ⊎_elim, arith}
+use Rattle.std.proofs.Common.{◌≡◌, ℕ, ◌+◌, ◌-◌, ◌<◌, inl, inr, ⊎_elim, arith}
 use Rattle.std.proofs.lemmas.Bool.{cases_lt}
 use Rattle.indication.specs.Rules.{InOrder, Attempt}
 use Rattle.reader.specs.Order.{GoesOn}

@@ -1,5 +1,5 @@
 -- The multiples of a number in a range, counted.
-use Rattle.std.proofs.Common.{◌≡◌, ℕ, zero, suc, ◌+◌, ◌-◌, ◌*◌, ◌/◌, ◌%◌, ◌<◌, min, cond, eqb, ap, ◌∙◌, ⊎_elim, add-zero, mod-lt, add-mul, div-add-mod', zero-add, arith}
+use Rattle.std.proofs.Common.{◌≡◌, ℕ, zero, suc, ◌+◌, ◌*◌, ◌/◌, ◌%◌, ◌<◌, min, cond, eqb, ap, ◌∙◌, ⊎_elim, add-zero, mod-lt, add-mul, div-add-mod', zero-add, arith}
 use lib.Arith.{digits_div, digits_mod}
 use Rattle.std.proofs.lemmas.Bool.{cases_lt}
 use Rattle.std.proofs.lemmas.Bool.Decides.{nat_tests}

@@ -2,7 +2,7 @@ use Rattle.std.proofs.Common.{◌+◌, drop, sym, ap, ◌∙◌, arith}
 use Rattle.tariffs.specs.declared.tariff.Subtariff.{Subtariff}
 use Rattle.tariffs.proofs.Lengths.{length_after, length_all, length_none, length_endless, length_more}
 use Rattle.tariffs.proofs.rounds.round_length.Goals as goal
-use Rattle.tariffs.proofs.rounds.round_length.Goals.{in-Some+else_duration_eq0, in_default}
+use Rattle.tariffs.proofs.rounds.round_length.Goals.{in-Some+else-duration-eq0, in_default}
 
 pub returns-then-duration-eq0 : goal.returns-then-duration-eq0
 returns-then-duration-eq0 c =
@@ -16,7 +16,7 @@ loop-slot-preserved c =
     let slots = c.args.slots.now in
     let i = c.loop-slot.slot-index in
     elim c.match-slot.branch [
-      | in-Some+else_duration_eq0 w ↦
+      | in-Some+else-duration-eq0 w ↦
           let is = ap (λ (s : Subtariff). s.duration) w.in-Some.field-0-is in (
             ap (λ n. length_after n (drop (i + 1) slots)) (w.length-is ∙ ap (λ d. so_far + d) is)
                 ∙ sym (length_more so_far slots i (omega arith) _ w.in-Some.is (λ z. w.if-duration-eq0.false (is ∙ z))) ∙ c.loop-slot.invariant.0,

@@ -1,4 +1,4 @@
-use Rattle.std.proofs.Common.{◌-◌, ◌%◌, eqb, arith}
+use Rattle.std.proofs.Common.{◌%◌, eqb, arith}
 use Rattle.units.proofs.Counts.{counted_le}
 use Rattle.units.proofs.Multiples.{counted_multiples}
 use Rattle.units.proofs.pulses.multiples_within.Goals as goal
