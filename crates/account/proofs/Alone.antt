@@ -11,7 +11,7 @@ use Rattle.account.specs.Requests.{Request, tariff, add_on, advance, start, rele
 use Rattle.account.specs.Journals.{tariff_came, add_on_came, started, released, Past, phase_of}
 use Rattle.account.specs.Answers.{is_allowed, is_accepted, refusal, time_refusal, further, past, past_after, reply, reply_unless, answer}
 use Rattle.account.specs.Laws.{is_about, is_others, alone, is_crowded_out, turns_away, finds_room, answers_to, OperatorsAreIndependent}
-use Rattle.account.proofs.Alike.{Alike, same_account, same_owed, alike_later, alike_event}
+use Rattle.account.proofs.Alike.{Alike, same_owed, alike_later, alike_event}
 use Rattle.account.proofs.Room.{same_tariff_refusal, same_add_on_refusal}
 
 -- p without, and q with, the indications of other networks

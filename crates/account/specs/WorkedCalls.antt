@@ -1,5 +1,5 @@
 -- Worked calls: what the definitions give for calls that a person can follow. Amounts of currency are in 0.0000001 EUR.
-use Rattle.std.specs.Prelude.{◌≡◌, ℕ, zero, suc, List, [], ◌∷◌, ◌++◌, map, reverse, ℤ, pos, negsuc, Some, None, Option}
+use Rattle.std.specs.Prelude.{◌≡◌, ℕ, List, [], ◌∷◌, map, reverse, ℤ, pos, negsuc, Some, None, Option}
 use Rattle.indication.specs.declared.entry.Usage.{Usage}
 use Rattle.indication.specs.declared.entry.Usage.TheVariants as usage
 use Rattle.indication.specs.declared.entry.Entry.{Entry}

@@ -1,12 +1,12 @@
 -- The command of a line is what the line says.
-use Rattle.std.proofs.Common.{◌≡◌, ℕ, ◌≤◌, List, length, take, sym, refl, ap, ◌∙◌, subst, arith}
+use Rattle.std.proofs.Common.{◌≡◌, ℕ, ◌≤◌, List, length, refl, ap, ◌∙◌, subst, arith}
 use Rattle.std.proofs.lemmas.List.{length-take}
 use Rattle.units.specs.Meanings.{Meaning}
 use Rattle.account.specs.declared.answer.Answer.{Answer}
 use Rattle.account.specs.Requests.{Asked}
 use Rattle.commands.specs.declared.command.Command.{Command}
 use Rattle.commands.specs.declared.command.Command.TheVariants.{Tariff, AddOn, Advance, Start, Release}
-use Rattle.commands.specs.Sayings.{Said, Says, bytes_of, said_of, size_of}
+use Rattle.commands.specs.Sayings.{Says, bytes_of, said_of, size_of}
 use Rattle.commands.proofs.Readings.{says_once}
 use Rattle.meter.specs.declared.meter.Meter.{Meter}
 use Rattle.meter.specs.Meters.{Performs}

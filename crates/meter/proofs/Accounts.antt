@@ -1,5 +1,5 @@
 -- The theorem of the meter, from the answers and the record of the definitions.
-use Rattle.std.proofs.Common.{◌≡◌, ℕ, Bool, true, false, cond, not, List, [], ◌∷◌, sym, refl, ap, ◌∙◌}
+use Rattle.std.proofs.Common.{◌≡◌, ℕ, Bool, cond, List, [], ◌∷◌, sym, refl, ap, ◌∙◌}
 use Rattle.units.specs.Meanings.{Meaning}
 use Rattle.record.specs.declared.call.Call.{Call}
 use Rattle.inquiry.specs.Inquiries.{owed_in}
@@ -7,7 +7,7 @@ use Rattle.account.specs.declared.answer.Answer.{Answer}
 use Rattle.account.specs.Requests.{Asked, Request}
 use Rattle.account.specs.Answers.{past, answer, answers}
 use Rattle.account.specs.Records.{record_after}
-use Rattle.account.specs.Laws.{is_advance, is_about, answers_to}
+use Rattle.account.specs.Laws.{is_about, answers_to}
 use Rattle.account.proofs.Cuts.{cuts}
 use Rattle.account.proofs.Alone as laws
 use Rattle.standing.proofs.Pasts.{kept}

@@ -1,5 +1,5 @@
 -- The requests that each phase does not allow.
-use Rattle.std.proofs.Common.{◌≡◌, ℕ, false, List, refl}
+use Rattle.std.proofs.Common.{◌≡◌, ℕ, false, refl}
 use Rattle.units.specs.Meanings.{Meaning}
 use Rattle.record.specs.declared.call.Phase.TheVariants as phase
 use Rattle.account.specs.Requests.{understood}

@@ -1,5 +1,5 @@
 -- One request more: its answer and the record after it are those of the definitions.
-use Rattle.std.proofs.Common.{◌≡◌, ℕ, ◌<◌, ◌≤◌, Bool, true, false, cond, not, ◌&&◌, ltb, List, [], ◌∷◌, is_some, Some, None, Ok, Err, Option, Result, sym, refl, ap, ◌∙◌, subst, arith}
+use Rattle.std.proofs.Common.{◌≡◌, ℕ, ◌<◌, ◌≤◌, true, false, not, List, [], ◌∷◌, Some, None, Ok, Err, Option, Result, sym, refl, ap, ◌∙◌, subst}
 use Rattle.std.specs.List.{AllByRecursion as All}
 use Rattle.std.proofs.lemmas.Bool.{cond-true, cond-false, lt-ltb, le-ltb, true≢false}
 use Rattle.indication.specs.declared.header.Kind.{Kind}
@@ -18,7 +18,7 @@ use Rattle.inquiry.specs.Inquiries.{owed_in, total_of, line_in, LooksAhead}
 use Rattle.account.specs.declared.answer.Answer.{Answer}
 use Rattle.account.specs.declared.answer.Answer.TheVariants.{NotAllowed, Refused, Accepted, Owed, Total, Line}
 use Rattle.account.specs.Requests.{Asked, Request, understood, tariff, add_on, advance, start, release, amount_owed, look_ahead, total, line}
-use Rattle.account.specs.Journals.{Past, phase_of, networks}
+use Rattle.account.specs.Journals.{Past, phase_of}
 use Rattle.account.specs.Answers.{is_allowed, is_closed, is_accepted, refusal, time_refusal, later, past, answer, reply, reply_unless}
 use Rattle.account.specs.Records.{record_after, record_of}
 use Rattle.hearing.specs.Hearing.{Shows, bringing}

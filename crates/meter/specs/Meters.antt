@@ -1,5 +1,5 @@
 -- What a meter has come to by a list of requests. Lists are newest first.
-use Rattle.std.specs.Prelude.{◌≡◌, ℕ, ◌<◌, Bool, true, cond, not, List, [], ◌∷◌, map, Ok, Err, Option, Result}
+use Rattle.std.specs.Prelude.{◌≡◌, ℕ, Bool, true, cond, not, List, [], ◌∷◌, map, Ok, Err, Option, Result}
 use Rattle.units.specs.Meanings.{Meaning}
 use Rattle.record.specs.declared.call.Phase.{Phase}
 use Rattle.record.specs.declared.call.Phase.TheVariants as phase

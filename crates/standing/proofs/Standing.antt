@@ -7,8 +7,7 @@ use Rattle.account.specs.Requests.{Request, tariff, add_on, advance, start, rele
 use Rattle.account.specs.Journals.{Past, networks}
 use Rattle.account.specs.Accounts.{account}
 use Rattle.account.specs.Answers.{further, is_accepted, past}
-use Rattle.account.specs.Records.{operator_of, record_after, record_of}
-use Rattle.hearing.specs.Hearing.{Shows}
+use Rattle.account.specs.Records.{operator_of, record_of}
 use Rattle.standing.specs.Steps.{RulesKeepTheRecord, SumsFit, RecordShowsTheKnown, ruled}
 use Rattle.standing.proofs.Acceptance.{accepted_parts, add_on_fits}
 use Rattle.standing.proofs.Amounts.{account_low, four_fit}

@@ -1,4 +1,3 @@
-use Rattle.std.proofs.Common.{arith}
 use Rattle.meter.specs.Meters.{asked}
 use Rattle.exchange.proofs.Lines.{line_performed}
 use Rattle.exchange.proofs.line.perform_line.Goals as goal

@@ -1,6 +1,5 @@
 use Rattle.std.proofs.Common.{refl}
 use Rattle.indication.specs.declared.header.Kind.TheVariants as kind
-use Rattle.account.specs.declared.answer.Answer.TheVariants.{Owed}
 use Rattle.meter.specs.declared.meter.Meter.TheVariants.{Charging, Closed}
 use Rattle.meter.proofs.Barred.{barred_charging}
 use Rattle.meter.proofs.Steps.{indication_performs, advance_performs, release_performs, owed_performs, look_performs, barred_performs}
