@@ -1,6 +1,6 @@
 -- The refusals of the record are those of the journal.
 use Rattle.std.proofs.Common.{◌≡◌, ℕ, zero, suc, ◌+◌, ◌<◌, ◌≤◌, true, false, leb, List, map, length, take, is_some, Some, None, Option, sym, refl, ◌∙◌, inl, inr, ⊎_elim, arith}
-use Rattle.std.specs.List.{range_with_len, AllByRecursion as All}
+use Rattle.std.specs.List.{range_with_len, AllByRecursion}
 use Rattle.std.proofs.ByRecursion.{All-append, All-take, All-map}
 use Rattle.std.proofs.lemmas.Bool.{both_ways, cond_both, cases_Bool, leb-true, leb-false}
 use Rattle.indication.specs.declared.header.Kind.{Kind}
@@ -144,7 +144,7 @@ module _ (m : Meaning) (call : Call) (p : Past) (b : List ℕ) (shows : Shows ca
   add_on_taken = (refusals_heard m call p AddOn b shows).1
 
 -- what holds of each of n numbers from a on
-all_counting : (P : ℕ → Type 0) (a n : ℕ) → ((i : ℕ) → i < a + n → P i) → All P (range_with_len a n)
+all_counting : (P : ℕ → Type 0) (a n : ℕ) → ((i : ℕ) → i < a + n → P i) → AllByRecursion P (range_with_len a n)
 all_counting P a zero h = tt
 all_counting P a (suc n) h = (h a (omega arith), all_counting P (a + 1) n (λ i l. h i (omega arith)))
 
@@ -155,7 +155,7 @@ module _ (m : Meaning) (taken : Kind) (b : List ℕ) (ok : Groundless (UnitGroun
       ⊎_elim (λ e. e) (λ e. absurd (ok (NotAdmitted (charge_offset i)) (i, l, refl, e))) (cases_Bool _)
 
   entries_admitted :
-      (a n : ℕ) → a + n ≤ entry_count b → All (EntryAdmitted m) (take 6 (map (entry_at b) (range_with_len a n)))
+      (a n : ℕ) → a + n ≤ entry_count b → AllByRecursion (EntryAdmitted m) (take 6 (map (entry_at b) (range_with_len a n)))
   entries_admitted a n l =
       All-take (EntryAdmitted m) 6 _ (All-map (EntryAdmitted m) (entry_at b) (range_with_len a n)
       (all_counting _ a n (λ i k. entry_admitted i (omega arith))))

@@ -1,6 +1,6 @@
 -- What the record of a call shows of its journal, and what it refuses by it.
 use Rattle.std.specs.Prelude.{◌≡◌, ℕ, ◌≤◌, true, false, List, length, Some, None}
-use Rattle.std.specs.List.{AllByRecursion as All}
+use Rattle.std.specs.List.{AllByRecursion}
 use Rattle.indication.specs.declared.entry.Entry.{Entry}
 use Rattle.indication.specs.declared.header.Kind.{Kind}
 use Rattle.indication.specs.declared.header.Kind.TheVariants.{Tariff, AddOn}
@@ -44,7 +44,7 @@ EntryAdmitted m e = admitted m e.charge e.term.usage ≡ true
 
 -- so is every charge of an indication
 abbrev pub ContentAdmitted : Meaning → Content → Type 0
-ContentAdmitted m c = All (EntryAdmitted m) (entries c)
+ContentAdmitted m c = AllByRecursion (EntryAdmitted m) (entries c)
 
 -- what an indication says where it is read for a unit is admitted
 abbrev pub WhatIsSaidIsAdmitted : Type 0

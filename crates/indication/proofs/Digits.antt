@@ -2,7 +2,7 @@
 use Rattle.std.proofs.Common.{◌≡◌, ℕ, zero, suc, ◌+◌, ◌*◌, ◌/◌, ◌%◌, ◌^◌, ◌<◌, List, [], ◌∷◌, length, sym, refl, ap, ◌∙◌, mod-eq_of_lt, mul_assoc, add_comm, arith}
 use lib.Arith.{mod-mul, digits_div, digits_lt}
 use native.Mathlib.Nat.{pow-succ', mod-one, add-mul-div_right, add-mul-mod_self_right, pow-le-pow_right}
-use Rattle.std.specs.List.{AllByRecursion as All}
+use Rattle.std.specs.List.{AllByRecursion}
 use Rattle.indication.specs.Numbers.{value, big_endian}
 
 pow_pos : (n : ℕ) → 0 < 256 ^ n
@@ -19,7 +19,7 @@ value_big_endian (suc n) x =
 
 -- bytes below 256
 abbrev pub Bytes : List ℕ → Type 0
-Bytes ds = All (λ d. d < 256) ds
+Bytes ds = AllByRecursion (λ d. d < 256) ds
 
 pub value_lt : (ds : List ℕ) → Bytes ds → value ds < 256 ^ length ds
 value_lt [] h = omega arith

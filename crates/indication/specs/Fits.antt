@@ -1,7 +1,7 @@
 -- The numbers of a content have the widths of their types, as those of every value of the program do.
 use Rattle.std.specs.Prelude.{◌≡◌, ◌^◌, ◌<◌, ◌≤◌, length, FitsSigned}
 use Rattle.std.specs.Int.{w16}
-use Rattle.std.specs.List.{AllByRecursion as All}
+use Rattle.std.specs.List.{AllByRecursion}
 use Rattle.indication.specs.declared.entry.Entry.{Entry}
 use Rattle.indication.specs.declared.header.Header.{Header}
 use Rattle.indication.specs.Format.{Content, entries}
@@ -21,5 +21,5 @@ pub record Fits (c : Content) : Type 0 where
   pub few_current : length c.current ≤ 6
   pub few_next : length c.next ≤ 6
   pub header : HeaderFits c.header
-  pub charges : All ChargeFits (entries c)
-  pub terms : All TermFits (entries c)
+  pub charges : AllByRecursion ChargeFits (entries c)
+  pub terms : AllByRecursion TermFits (entries c)

@@ -1,6 +1,6 @@
 -- One request more: its answer and the record after it are those of the definitions.
 use Rattle.std.proofs.Common.{◌≡◌, ℕ, ◌<◌, ◌≤◌, true, false, not, List, [], ◌∷◌, Some, None, Ok, Err, Option, Result, sym, refl, ap, ◌∙◌, subst}
-use Rattle.std.specs.List.{AllByRecursion as All}
+use Rattle.std.specs.List.{AllByRecursion}
 use Rattle.std.proofs.lemmas.Bool.{cond-true, cond-false, lt-ltb, le-ltb, true≢false}
 use Rattle.indication.specs.declared.header.Kind.{Kind}
 use Rattle.indication.specs.declared.header.Kind.TheVariants as kind
@@ -47,7 +47,7 @@ admitted_request m (look_ahead network n) = tt
 admitted_request m total = tt
 admitted_request m (line k) = tt
 
-admitted_list : (m : Meaning) (h : List Asked) → All (RequestAdmitted m) (heard m h)
+admitted_list : (m : Meaning) (h : List Asked) → AllByRecursion (RequestAdmitted m) (heard m h)
 admitted_list m [] = tt
 admitted_list m (r ∷ h) = (admitted_request m r, admitted_list m h)
 

@@ -1,6 +1,6 @@
 -- What is entered of admitted requests is admitted.
 use Rattle.std.proofs.Common.{List, [], ◌∷◌}
-use Rattle.std.specs.List.{AllByRecursion as All}
+use Rattle.std.specs.List.{AllByRecursion}
 use Rattle.std.proofs.lemmas.Bool.{cond_both}
 use Rattle.units.specs.Meanings.{Meaning}
 use Rattle.readings.specs.Readings.{refused, says}
@@ -17,7 +17,7 @@ EventAdmitted m started = Unit {0}
 EventAdmitted m released = Unit {0}
 
 abbrev pub JournalAdmitted : Meaning → List Dated → Type 0
-JournalAdmitted m j = All (λ d. EventAdmitted m d.event) j
+JournalAdmitted m j = AllByRecursion (λ d. EventAdmitted m d.event) j
 
 pub admitted_further :
     (m : Meaning) (r : Request) (p : Past) → JournalAdmitted m p.journal → RequestAdmitted m r → JournalAdmitted m (further r p).journal
@@ -33,7 +33,7 @@ admitted_further m (look_ahead network n) p a h = a
 admitted_further m total p a h = a
 admitted_further m (line i) p a h = a
 
-pub admitted_past : (m : Meaning) (h : List Request) → All (RequestAdmitted m) h → JournalAdmitted m (past h).journal
+pub admitted_past : (m : Meaning) (h : List Request) → AllByRecursion (RequestAdmitted m) h → JournalAdmitted m (past h).journal
 admitted_past m [] a = tt
 admitted_past m (r ∷ h) (one, a) =
     cond_both (is_accepted (past h) r) _ _ (λ (p : Past). JournalAdmitted m p.journal)

@@ -1,6 +1,6 @@
 -- How much an operator is owed at most, and all of them together.
 use Rattle.std.proofs.Common.{ℕ, ◌+◌, ◌-◌, ◌*◌, ◌^◌, ◌<◌, ◌≤◌, eqb, List, [], ◌∷◌, ◌++◌, map, length, Some, None, Option, suc-mul, arith}
-use Rattle.std.specs.List.{AllByRecursion as All}
+use Rattle.std.specs.List.{AllByRecursion}
 use Rattle.std.proofs.lemmas.Nat.{mul-le}
 use Rattle.std.proofs.lemmas.Bool.{cond_both}
 use Rattle.units.specs.Meanings.{Meaning, Sound}
@@ -28,7 +28,7 @@ turns_low Closed = omega arith
 
 module _ (m : Meaning) where
   abbrev ReceiptsAdmitted : List Receipt → Type 0
-  ReceiptsAdmitted rs = All (λ r. ContentAdmitted m r.content) rs
+  ReceiptsAdmitted rs = AllByRecursion (λ r. ContentAdmitted m r.content) rs
 
   receipts_with :
       (n at : ℕ) (e : Event) (rs : List Receipt) → EventAdmitted m e → ReceiptsAdmitted rs → ReceiptsAdmitted (receipt_in n at e ++ rs)

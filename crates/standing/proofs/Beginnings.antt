@@ -2,7 +2,7 @@
 use Rattle.std.proofs.Common.{◌≡◌, ℕ, ◌≤◌, Bool, true, false, eqb, List, [], ◌∷◌, ◌++◌, is_some, Some, None, Option, refl}
 use Rattle.std.specs.Option.{option_or}
 use Rattle.std.specs.Bool.{then_some}
-use Rattle.std.specs.List.{AllByRecursion as All}
+use Rattle.std.specs.List.{AllByRecursion}
 use Rattle.std.proofs.lemmas.Bool.{and_right, cond_both, true≢false}
 use Rattle.record.specs.Operators.{is_charging}
 use Rattle.account.specs.Journals.{Event, tariff_came, add_on_came, started, released, Dated, Receipt, beginning, charges, is_known, phase_of, receipt_in, receipts}
@@ -12,7 +12,7 @@ use Rattle.standing.proofs.Stretches.{Began}
 
 -- every entry of a journal came by a clock
 abbrev pub DatedBy : ℕ → List Dated → Type 0
-DatedBy clock j = All (λ d. d.at ≤ clock) j
+DatedBy clock j = AllByRecursion (λ d. d.at ≤ clock) j
 
 begins_by : (clock at : ℕ) (b : Option ℕ) (t : Bool) → Began clock b → at ≤ clock → Began clock (option_or b (then_some t at))
 begins_by clock at None true h l = l

@@ -1,6 +1,6 @@
 -- The known networks: just those with an accepted tariff indication, each once.
 use Rattle.std.proofs.Common.{◌≡◌, ℕ, Bool, true, false, cond, ◌||◌, eqb, List, [], ◌∷◌, ◌++◌, sym, refl, ap, ◌∙◌, subst}
-use Rattle.std.specs.List.{AllByRecursion as All}
+use Rattle.std.specs.List.{AllByRecursion}
 use Rattle.std.proofs.ByRecursion.{All-weaker}
 use Rattle.std.proofs.lemmas.Bool.{cond_both, eqb-true, eqb-false, eq-eqb, ne_eqb, or_left, or_right, or_parts}
 use Rattle.indication.specs.Format.{Content}
@@ -63,7 +63,7 @@ pub distinct : (j : List Dated) → Distinct (networks j)
 distinct [] = tt
 distinct (d ∷ j) = distinct_by d.event (networks j) (distinct j)
 
-pub all_among : (ns : List ℕ) → All (λ n. is_among n ns ≡ true) ns
+pub all_among : (ns : List ℕ) → AllByRecursion (λ n. is_among n ns ≡ true) ns
 all_among [] = tt
 all_among (n ∷ ns) = (
   or_left (eqb n n) _ (eq-eqb n n refl),

@@ -1,6 +1,6 @@
 -- The rules keep the record, request by request.
 use Rattle.std.proofs.Common.{◌≡◌, ℕ, ◌+◌, ◌^◌, ◌<◌, true, false, cond, not, ◌&&◌, List, [], ◌∷◌, map, is_some, sym, refl, ap, ◌∙◌, arith}
-use Rattle.std.specs.List.{AllByRecursion as All}
+use Rattle.std.specs.List.{AllByRecursion}
 use Rattle.std.proofs.ByRecursion.{All-weaker}
 use Rattle.std.proofs.lemmas.Bool.{true≢false}
 use Rattle.units.specs.Meanings.{Meaning}
@@ -20,7 +20,7 @@ use Rattle.standing.proofs.Networks.{all_among, among_known}
 use Rattle.standing.proofs.Pasts.{Kept}
 use Rattle.standing.proofs.Seats.{call_with, seats_everyone}
 
-all_each : {X : Type 0} (P : X → Type 0) (xs : List X) → ((x : X) → P x) → All P xs
+all_each : {X : Type 0} (P : X → Type 0) (xs : List X) → ((x : X) → P x) → AllByRecursion P xs
 all_each P [] h = tt
 all_each P (x ∷ xs) h = (h x, all_each P xs h)
 
@@ -47,7 +47,7 @@ module _ (m : Meaning) (opening : ℕ) (p : Past) (k : Kept p) where
   -- the call enters a phase, with no indication
   enters :
       (phase : Phase) (h : ℕ → Operator) (f : Operator → Operator)
-      → All (λ n. h n ≡ f (operator_of m opening p n)) (networks p.journal)
+      → AllByRecursion (λ n. h n ≡ f (operator_of m opening p n)) (networks p.journal)
       → call_with opening p.clock phase (accepted_in p.journal + 0) (seated 4 (map h (networks p.journal)))
       ≡ entering phase f (record_of m opening p)
   enters phase h f same =

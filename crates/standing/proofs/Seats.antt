@@ -1,7 +1,7 @@
 -- Seats, filled in order with the operators of some networks.
 use Rattle.std.proofs.Common.{◌≡◌, ℕ, zero, suc, ◌≤◌, Bool, true, false, cond, ◌||◌, eqb, List, [], ◌∷◌, ◌++◌, map, length, Some, None, Option, sym, refl, ap, arith}
 use Rattle.std.specs.Option.{option_map}
-use Rattle.std.specs.List.{AllByRecursion as All}
+use Rattle.std.specs.List.{AllByRecursion}
 use Rattle.std.proofs.lemmas.Bool.{eqb-true, or_parts, true≢false}
 use Rattle.record.specs.declared.call.Call.{Call}
 use Rattle.record.specs.declared.call.Phase.{Phase}
@@ -22,7 +22,7 @@ call_with opening clock phase accepted seats =
 
 -- every operator changes
 pub seats_everyone :
-    (g h : ℕ → Operator) (f : Operator → Operator) (k : ℕ) (ns : List ℕ) → All (λ n. h n ≡ f (g n)) ns
+    (g h : ℕ → Operator) (f : Operator → Operator) (k : ℕ) (ns : List ℕ) → AllByRecursion (λ n. h n ≡ f (g n)) ns
     → seated k (map h ns) ≡ everyone f (seated k (map g ns))
 seats_everyone g h f zero ns same = refl
 seats_everyone g h f (suc k) [] same = ap (λ s. None ∷ s) (seats_everyone g h f k [] tt)

@@ -1,6 +1,6 @@
 -- The record that a list of requests ends in is, request by request, what the rules make of it. Lists are newest first.
 use Rattle.std.specs.Prelude.{◌≡◌, ℕ, ◌^◌, ◌<◌, true, List, [], ◌∷◌, map}
-use Rattle.std.specs.List.{AllByRecursion as All}
+use Rattle.std.specs.List.{AllByRecursion}
 use Rattle.units.specs.Meanings.{Meaning, Sound}
 use Rattle.record.specs.declared.call.Call.{Call}
 use Rattle.record.specs.Calls.{opened, received_tariff, received_add_on, advanced, started, released}
@@ -49,13 +49,13 @@ NoRequestsOpened = (m : Meaning) (opening : ℕ) → opening < 86400 → record_
 -- The rules keep the record: one more accepted request changes it by its rule.
 abbrev pub RulesKeepTheRecord : Type 0
 RulesKeepTheRecord =
-    (m : Meaning) → Sound m → (opening : ℕ) (r : Request) (h : List Request) → All (RequestAdmitted m) (r ∷ h)
+    (m : Meaning) → Sound m → (opening : ℕ) (r : Request) (h : List Request) → AllByRecursion (RequestAdmitted m) (r ∷ h)
     → is_accepted (past h) r ≡ true → record_after m opening (r ∷ h) ≡ ruled m r (record_after m opening h)
 
 -- Sums fit: what all operators are owed together fits 64 bits.
 abbrev pub SumsFit : Type 0
 SumsFit =
-    (m : Meaning) → Sound m → (opening : ℕ) (h : List Request) → All (RequestAdmitted m) h
+    (m : Meaning) → Sound m → (opening : ℕ) (h : List Request) → AllByRecursion (RequestAdmitted m) h
     → added_up (map (account m opening (past h)) (networks (past h).journal)) < 2 ^ 64
 
 -- The record shows whom the call knows.

@@ -1,6 +1,6 @@
 -- What a tariff charges, from one pass or from rounds of its sequence, and how much it is at most.
 use Rattle.std.proofs.Common.{◌≡◌, ℕ, ◌+◌, ◌*◌, ◌%◌, ◌<◌, ◌≤◌, Bool, true, false, cond, eqb, leb, List, [], ◌∷◌, is_some, Some, None, Option, sym, refl, ap, ◌∙◌, subst, ⊎_elim, arith}
-use Rattle.std.specs.List.{AllByRecursion as All}
+use Rattle.std.specs.List.{AllByRecursion}
 use Rattle.std.proofs.lemmas.Nat.{mul-le}
 use Rattle.std.proofs.lemmas.Bool.{and_parts, leb-true, cond_both, cond-true, cond-false, cases_Bool}
 use Rattle.std.proofs.lemmas.Bool.Decides.{nat_tests}
@@ -59,13 +59,13 @@ module _ (m : Meaning) (sound : Sound m) where
       cond_both (eqb j 0) _ _ (λ x. x ≤ most)
       (λ _. mul-le (m.price s.charge) (m.lump s.charge s.duration) 1000000000 36000 (price_bound s OneTime e) (lump_bound s)) (λ _. omega arith)
 
-  pub within_bound : (ss : List Subtariff) (p : ℕ) → All (Admitted m) ss → within m ss p ≤ most
+  pub within_bound : (ss : List Subtariff) (p : ℕ) → AllByRecursion (Admitted m) ss → within m ss p ≤ most
   within_bound [] p all = omega arith
   within_bound (s ∷ ss) p (one, all) =
       cond_both (lasts s p) _ _ (λ x. x ≤ most) (λ _. taken_bound s p s.charging one) (λ _. within_bound ss _ all)
 
   day_fits :
-      (t : Tariff) (p n : ℕ) (r : Option ℕ) → Priced r (charged m t p n) → All (Admitted m) (sequence t) → n ≤ 86400 → is_some r ≡ true
+      (t : Tariff) (p n : ℕ) (r : Option ℕ) → Priced r (charged m t p n) → AllByRecursion (Admitted m) (sequence t) → n ≤ 86400 → is_some r ≡ true
   day_fits t p n (Some x) h all low = refl
   day_fits t p n None h all low =
       let each = sum_bound (λ k. charged_at m t (p + k)) most (λ k. within_bound (sequence t) _ all) n in

@@ -1,6 +1,6 @@
 -- The parts that the price of a stretch is made of.
 use Rattle.std.specs.Prelude.{◌≡◌, ℕ, ◌+◌, ◌-◌, ◌/◌, ◌%◌, ◌≤◌, min, true, cond, List, is_some, Option, ◌==◌}
-use Rattle.std.specs.List.{AllByRecursion as All}
+use Rattle.std.specs.List.{AllByRecursion}
 use Rattle.units.specs.Meanings.{Meaning, counted}
 use Rattle.tariffs.specs.declared.tariff.Charging.{Charging}
 use Rattle.tariffs.specs.declared.tariff.Charging.TheVariants.{Periodic, OneTime}
@@ -33,4 +33,4 @@ pub record Splits (round p n : ℕ) (r : InRounds) : Type 0 where
 -- r is the price of the stretch of n seconds from elapsed second p on, and there is one for a day of admitted charges
 pub record Prices (m : Meaning) (t : Tariff) (p n : ℕ) (r : Option ℕ) : Type 0 where
   pub sum : Priced r (charged m t p n)
-  pub fits : All (Admitted m) (sequence t) → n ≤ 86400 → is_some r ≡ true
+  pub fits : AllByRecursion (Admitted m) (sequence t) → n ≤ 86400 → is_some r ≡ true

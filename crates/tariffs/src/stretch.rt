@@ -1,5 +1,5 @@
 ghost use Rattle.std.specs.Prelude.{◌≡◌, ◌≤◌, true, is_some};
-ghost use Rattle.std.specs.List.{AllByRecursion as All};
+ghost use Rattle.std.specs.List.{AllByRecursion};
 ghost use Rattle.tariffs.specs.Sequences.{Admitted, Priced, charged, sequence};
 ghost use Rattle.tariffs.specs.Stretches.{Prices, round_of};
 
@@ -13,7 +13,7 @@ impl Tariff {
     /// What the tariff charges over `seconds` seconds from elapsed second `from` on; `None` where that does not fit.
     pub fn price_of_stretch<U: Bounded>(&self, unit: &U, from: u32, seconds: u32) -> Option<u64>
         ensures sum { Priced result (charged (U.Unit.meaning unit.now) self.now from seconds) }
-        ensures fits { All (Admitted (U.Unit.meaning unit.now)) (sequence self.now) → seconds ≤ 86400 → is_some result ≡ true }
+        ensures fits { AllByRecursion (Admitted (U.Unit.meaning unit.now)) (sequence self.now) → seconds ≤ 86400 → is_some result ≡ true }
     {
         let round = self.round();
         if round == 0 {

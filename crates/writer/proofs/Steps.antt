@@ -7,7 +7,7 @@ use Rattle.indication.specs.declared.header.Header.{Header}
 use Rattle.indication.specs.Numbers.{big_endian}
 use Rattle.indication.specs.Format.{Content, listed, entries, charge_bytes, term_bytes, first_eight, header_bytes, encoded}
 use Rattle.indication.proofs.Spans.{joined_append}
-use Rattle.std.specs.List.{flat_map, AllByRecursion as All}
+use Rattle.std.specs.List.{flat_map, AllByRecursion}
 use Rattle.std.proofs.ByRecursion.{All-push, All-append}
 use Rattle.std.proofs.lemmas.List.{take_more, take_all, flat_map_more, length-take}
 
@@ -35,10 +35,10 @@ pieces_all f xs i before after l inv = inv ∙ ap (λ ys. before ++ flat_map f y
 
 -- the same of what holds of each
 pub fits_more :
-    (P : Entry → Type 0) (xs : List Entry) (i : ℕ) → i < length xs → All P (take i xs) → P (get_or xs i blank) → All P (take (i + 1) xs)
+    (P : Entry → Type 0) (xs : List Entry) (i : ℕ) → i < length xs → AllByRecursion P (take i xs) → P (get_or xs i blank) → AllByRecursion P (take (i + 1) xs)
 fits_more P xs i l so_far here = rw (take_more xs i blank l) (All-push P (take i xs) (get_or xs i blank) so_far here)
 
-pub fits_all : (P : Entry → Type 0) (xs : List Entry) (i : ℕ) → length xs ≤ i → All P (take i xs) → All P xs
+pub fits_all : (P : Entry → Type 0) (xs : List Entry) (i : ℕ) → length xs ≤ i → AllByRecursion P (take i xs) → AllByRecursion P xs
 fits_all P xs i l h = rw (take_all i xs l) at h
 
 -- the five parts of the header, one behind the other
@@ -73,7 +73,7 @@ all_laid c current next w0 w1 w2 w3 w4 w5 e f g h i j k l =
     ∙ sym (ap (λ rest. header_bytes (length c.current) (length c.next) c.header ++ rest) two))
 
 -- what holds of each entry of both tariffs holds of each entry
-pub both : (P : Entry → Type 0) (c : Content) (current next : List Entry) → current ≡ c.current → next ≡ c.next → All P current → All P next → All P (entries c)
+pub both : (P : Entry → Type 0) (c : Content) (current next : List Entry) → current ≡ c.current → next ≡ c.next → AllByRecursion P current → AllByRecursion P next → AllByRecursion P (entries c)
 both P c current next e f h i = All-append P c.current c.next (rw e at h) (rw f at i)
 
 pub few : (e : Entries) → length (listed e) ≤ 6

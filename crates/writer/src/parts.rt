@@ -1,7 +1,7 @@
 ghost use Rattle.std.specs.Prelude.{◌≡◌, ◌+◌, ◌*◌, ◌≤◌, [], ◌++◌, length};
 ghost use Rattle.indication.specs.Fits.{ChargeFits, Fits, HeaderFits, TermFits};
 ghost use Rattle.indication.specs.Format.{charge_bytes, content_of, encoded, header_bytes, term_bytes};
-ghost use Rattle.std.specs.List.{flat_map, AllByRecursion as All};
+ghost use Rattle.std.specs.List.{flat_map, AllByRecursion};
 ghost use Rattle.writer.specs.Encodings.{written};
 
 use crate::encoding::Encoding;
@@ -74,7 +74,7 @@ impl Encoding {
         requires { self.old.len + 6 * length entries.now ≤ 132 }
         ensures bytes { written self.new ≡ written self.old ++ flat_map charge_bytes entries.now }
         ensures len { self.new.len ≡ self.old.len + 6 * length entries.now }
-        ensures fits { All ChargeFits entries.now }
+        ensures fits { AllByRecursion ChargeFits entries.now }
     {
         for entry in entries {
             self.put(&charge_bytes(*entry));
@@ -86,7 +86,7 @@ impl Encoding {
         requires { self.old.len + 3 * length entries.now ≤ 132 }
         ensures bytes { written self.new ≡ written self.old ++ flat_map term_bytes entries.now }
         ensures len { self.new.len ≡ self.old.len + 3 * length entries.now }
-        ensures fits { All TermFits entries.now }
+        ensures fits { AllByRecursion TermFits entries.now }
     {
         for entry in entries {
             self.put(&term_bytes(*entry));
