@@ -1,6 +1,6 @@
 ghost use Rattle.std.specs.Prelude.{◌≡◌, ℕ, ◌%◌, []};
 ghost use Rattle.meter.specs.Meters.{CameBy, Performs, answer_ahead, answer_for, asked, call_of, unit_of};
-ghost use Rattle.meter.specs.declared.meter.Meter.TheVariants.{Charging as whileCharging, Closed as onceClosed, SetUp as inSetUp};
+ghost use Rattle.meter.specs.declared.meter.Meter.TheVariants.{Charging as while_charging, Closed as once_closed, SetUp as in_set_up};
 ghost use Rattle.record.specs.Calls.{opened};
 
 use crate::charging::Charging;
@@ -79,7 +79,7 @@ pub fn perform<U: Bounded + Drop>(meter: Meter<U>, request: Request) -> (Meter<U
 }
 
 fn perform_in_set_up<U: Bounded + Drop>(call: SetUp<U>, request: Request) -> (Meter<U>, Answer)
-    ensures { Performs U.Unit.meaning (inSetUp call) (asked request.entry) result.0 result.1 }
+    ensures { Performs U.Unit.meaning (in_set_up call) (asked request.entry) result.0 result.1 }
 {
     let mut call = call;
     match request {
@@ -98,7 +98,7 @@ fn perform_in_set_up<U: Bounded + Drop>(call: SetUp<U>, request: Request) -> (Me
 }
 
 fn perform_charging<U: Bounded + Drop>(call: Charging<U>, request: Request) -> (Meter<U>, Answer)
-    ensures { Performs U.Unit.meaning (whileCharging call) (asked request.entry) result.0 result.1 }
+    ensures { Performs U.Unit.meaning (while_charging call) (asked request.entry) result.0 result.1 }
 {
     let mut call = call;
     match request {
@@ -128,7 +128,7 @@ fn perform_charging<U: Bounded + Drop>(call: Charging<U>, request: Request) -> (
 }
 
 fn perform_closed<U: Bounded + Drop>(call: Closed<U>, request: Request) -> (Meter<U>, Answer)
-    ensures { Performs U.Unit.meaning (onceClosed call) (asked request.entry) result.0 result.1 }
+    ensures { Performs U.Unit.meaning (once_closed call) (asked request.entry) result.0 result.1 }
 {
     let answer = match request {
         Request::Total => Answer::Total(call.total()),
