@@ -73,9 +73,9 @@ impl Unit for Primes {
           lump_low = λ c d h. Prim.grind (arith, nat_tests);
           lump_high = λ c d. Prim.grind (arith, nat_tests);
           lump_none = λ c d h. Prim.grind (arith, nat_tests);
-          misfit_price = λ c no-use. let one = no-use Periodic in Prim.grind (arith, nat_tests);
-          misfit_ticks = λ c no-use j. and_left _ _ (no-use Periodic);
-          misfit_lump = λ c no-use d h. Prim.grind (arith, nat_tests);
+          misfit_price = λ c no_use. let one = no_use Periodic in Prim.grind (arith, nat_tests);
+          misfit_ticks = λ c no_use j. and_left _ _ (no_use Periodic);
+          misfit_lump = λ c no_use d h. Prim.grind (arith, nat_tests);
         } };
 
     fn owns(&self, mark: Mark) -> bool {

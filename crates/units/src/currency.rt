@@ -30,9 +30,9 @@ impl Unit for Currency {
           lump_low = λ c d h. Prim.grind (arith, nat_tests);
           lump_high = λ c d. Prim.grind (arith, nat_tests);
           lump_none = λ c d h. Prim.grind (arith, nat_tests);
-          misfit_price = λ c no-use. cond-false _ _ _ (no-use Periodic);
-          misfit_ticks = λ c no-use j. no-use Periodic;
-          misfit_lump = λ c no-use d h. cond-true _ _ _ h ∙ cond-false _ _ _ (no-use Periodic);
+          misfit_price = λ c no_use. cond-false _ _ _ (no_use Periodic);
+          misfit_ticks = λ c no_use j. no_use Periodic;
+          misfit_lump = λ c no_use d h. cond-true _ _ _ h ∙ cond-false _ _ _ (no_use Periodic);
         } };
 
     fn owns(&self, mark: Mark) -> bool {

@@ -48,9 +48,9 @@ impl Unit for Pulses {
           lump_low = λ c d h. Prim.grind (arith, nat_tests);
           lump_high = λ c d. Prim.grind (arith, nat_tests);
           lump_none = λ c d h. Prim.grind (arith, nat_tests);
-          misfit_price = λ c no-use. let one = no-use Periodic in let two = no-use OneTime in Prim.grind (arith, ints, nat_tests);
-          misfit_ticks = λ c no-use j. let one = no-use Periodic in Prim.grind (arith, nat_tests);
-          misfit_lump = λ c no-use d h. Prim.grind (arith, nat_tests);
+          misfit_price = λ c no_use. let one = no_use Periodic in let two = no_use OneTime in Prim.grind (arith, ints, nat_tests);
+          misfit_ticks = λ c no_use j. let one = no_use Periodic in Prim.grind (arith, nat_tests);
+          misfit_lump = λ c no_use d h. Prim.grind (arith, nat_tests);
         } };
 
     fn owns(&self, mark: Mark) -> bool {
