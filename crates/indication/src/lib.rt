@@ -2,6 +2,7 @@
 
 #![tactic(auto)]
 
+pub mod code;
 pub mod entries;
 pub mod entry;
 pub mod fault;

@@ -1,0 +1,14 @@
+use std::error::Error;
+use std::fmt;
+
+/// A byte that is the code of no case.
+#[derive(Clone, Copy, PartialEq, Eq, Debug)]
+pub struct UnknownCode(pub u8);
+
+impl fmt::Display for UnknownCode {
+    fn fmt<W: fmt::Write>(&self, f: &mut fmt::Formatter<W>) -> fmt::Result {
+        write!(f, "no case has the code {}", self.0)
+    }
+}
+
+impl Error for UnknownCode {}
