@@ -47,6 +47,7 @@ pub struct Charge {
 #[derive(Clone, Copy, PartialEq, Eq, Debug)]
 pub struct Term {
     pub usage: Usage,
+    // any number, since the writer is handed what an operator wrote, and refuses a duration that the use may not have
     pub duration: u16,
 }
 

@@ -82,6 +82,7 @@ pub struct Header {
     pub current_control: TariffControl,
     pub next_control: TariffControl,
     /// the quarter hour of the day, 1 to 96, at which the next tariff takes over; 0 where there is none
+    // any number, since the writer is handed what an operator wrote, and refuses a quarter out of range
     pub quarter: u8,
     pub mark: Mark,
     pub network: u64,

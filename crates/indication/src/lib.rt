@@ -9,3 +9,4 @@ pub mod fault;
 pub mod header;
 mod table;
 pub mod value;
+mod words;
