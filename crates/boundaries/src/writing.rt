@@ -22,21 +22,17 @@ type Answer = Result<usize, (u8, usize)>;
 // Writes into the first `room` bytes of the buffer.
 fn written(indication: &Indication, buffer: &mut [u8], room: usize) -> Answer {
     let room = room.min(buffer.len());
-    match writer::write(indication, &mut buffer[0..room]) {
-        Ok(count) => Ok(count),
-        Err(fault) => Err((fault.number(), fault.offset())),
-    }
+    writer::write(indication, &mut buffer[0..room]).map_err(|fault| (
+        fault.number(),
+        fault.offset(),
+    ))
 }
 
 // Whether the buffer has the bytes at its front, and is else as it was.
 fn holds(buffer: &[u8], bytes: &[u8]) -> bool {
-    for (i, byte) in buffer.iter().enumerate() {
-        let expected = if i < bytes.len() { bytes[i] } else { FILL };
-        if *byte != expected {
-            return false;
-        }
-    }
-    true
+    buffer
+        .strip_prefix(bytes)
+        .is_some_and(|rest| rest.iter().all(|byte| *byte == FILL))
 }
 
 // Writes into a buffer with so much room, and checks the answer and what then stands at its front.

@@ -4,6 +4,7 @@ use Rattle.std.specs.List.{range_with_len, flat_map}
 use Rattle.std.proofs.lemmas.Int.{of_z-to_z}
 use Rattle.std.proofs.lemmas.List.FromFn.{length-map-range_with_len}
 use Rattle.std.proofs.lemmas.List.{take_all, map-append}
+use Rattle.std.proofs.lemmas.List.Folds.{flat_map-map}
 use Rattle.indication.specs.declared.header.Kind.{Kind}
 use Rattle.indication.specs.declared.header.Kind.TheVariants as kind
 use Rattle.indication.specs.Numbers.{value, big_endian}
@@ -11,7 +12,7 @@ use Rattle.indication.specs.Codes.{kind_code, change_code, control_code, usage_c
 use Rattle.indication.specs.Format.{byte, part, current_count, next_count, entry_count, charge_offset, term_offset, entry_at, header_of, decoded, charge_bytes, term_bytes, header_bytes, entries, encoded}
 use Rattle.indication.specs.Rules.{Accepted}
 use Rattle.indication.proofs.Digits.{Bytes, value_lt, big_endian_value}
-use Rattle.indication.proofs.Spans.{counting_append, part_append, part_all, joined_parts, joined_map}
+use Rattle.indication.proofs.Spans.{counting_append, part_append, part_all, joined_parts}
 use Rattle.indication.proofs.WellFormed as formed
 
 -- a code is had back from its case
@@ -96,13 +97,13 @@ module _ (b : List ℕ) (bytes : (i : ℕ) → byte b i < 256) where
     charges_are : flat_map charge_bytes (entries (decoded b)) ≡ part b 24 (6 * entry_count b)
     charges_are =
         ap (flat_map charge_bytes) entries_are
-        ∙ joined_map charge_bytes (entry_at b) (range_with_len 0 (entry_count b))
+        ∙ flat_map-map charge_bytes (entry_at b) (range_with_len 0 (entry_count b))
         ∙ joined_parts b (λ i. charge_bytes (entry_at b i)) 6 24 0 (entry_count b) (λ i l m. charge_part i)
 
     terms_are : flat_map term_bytes (entries (decoded b)) ≡ part b (24 + 6 * entry_count b) (3 * entry_count b)
     terms_are =
         ap (flat_map term_bytes) entries_are
-        ∙ joined_map term_bytes (entry_at b) (range_with_len 0 (entry_count b))
+        ∙ flat_map-map term_bytes (entry_at b) (range_with_len 0 (entry_count b))
         ∙ joined_parts b (λ i. term_bytes (entry_at b i)) 3 (24 + 6 * entry_count b) 0 (entry_count b)
         (λ i l m. term_part i (formed.use_code taken b ok i (omega arith)))
         ∙ ap (λ at. part b at (3 * entry_count b)) (add-zero (24 + 6 * entry_count b))

@@ -1,8 +1,9 @@
 -- What the bytes of a content say is that content.
-use Rattle.std.proofs.Common.{◌≡◌, ℕ, ◌+◌, ◌*◌, ◌^◌, ◌<◌, List, [], ◌∷◌, ◌++◌, map, length, get_or, take, ℤ, pos, negsuc, sym, refl, ap, ◌∙◌, append_assoc, append-nil, mod-eq_of_lt, arith, w16, SFits, to_z, of_z}
+use Rattle.std.proofs.Common.{◌≡◌, ℕ, ◌+◌, ◌*◌, ◌^◌, ◌<◌, List, [], ◌∷◌, ◌++◌, map, length, get_or, take, ℤ, sym, refl, ap, ◌∙◌, append_assoc, append-nil, mod-eq_of_lt, arith, w16, to_z, of_z}
 use Rattle.std.specs.List.{range_with_len, flat_map}
 use Rattle.std.proofs.lemmas.Int.{to_z-of_z}
 use Rattle.std.proofs.lemmas.List.FromFn.{length-map-range_with_len, get_or-map-range_with_len}
+use Rattle.std.proofs.Math.Facts.{Fits-of_z}
 use Rattle.std.proofs.ByRecursion.{All-get_or}
 use Rattle.std.proofs.lemmas.List.{take_all, same_lists, length-append, get_or_append_left, get_or-append-add}
 use Rattle.indication.specs.declared.header.Kind.{Kind}
@@ -45,11 +46,6 @@ usage_of_usage_code usage.AddOn = refl
 value_back : (n x : ℕ) → x < 256 ^ n → value (big_endian n x) ≡ x
 value_back n x h = value_big_endian n x ∙ mod-eq_of_lt h
 
--- the bits of a step
-bits_lt : (z : ℤ) → SFits w16 z → of_z w16 z < 65536
-bits_lt (pos n) h = omega (arith, h.sfits)
-bits_lt (negsuc n) h = omega (arith, h.sfits)
-
 -- lists of one length that are followed by others
 append_same : {X : Type 0} (xs ys s t : List X) → length xs ≡ length ys → xs ++ s ≡ ys ++ t → (xs ≡ ys) × (s ≡ t)
 append_same [] [] s t l e = (refl, e)
@@ -83,7 +79,7 @@ entry_back b i e c_fits t_fits c t =
     let seconds : part b (term_offset b i + 1) 2 ≡ big_endian 2 e.term.duration = cc in
     same_entry e _ _ _ _
     (ap value two.0 ∙ value_back 4 e.charge.size c_fits.0)
-    (ap (to_z w16) (ap value two.1 ∙ value_back 2 (of_z w16 e.charge.step) (bits_lt e.charge.step c_fits.1)) ∙ to_z-of_z w16 e.charge.step c_fits.1)
+    (ap (to_z w16) (ap value two.1 ∙ value_back 2 (of_z w16 e.charge.step) (Fits-of_z c_fits.1).fits) ∙ to_z-of_z w16 e.charge.step c_fits.1)
     use_is
     (ap value seconds ∙ value_back 2 e.term.duration t_fits)
 

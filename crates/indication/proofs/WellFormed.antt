@@ -1,5 +1,5 @@
 -- What holds of the bytes of an accepted indication.
-use Rattle.std.proofs.Common.{◌≡◌, ℕ, ◌+◌, ◌-◌, ◌<◌, ◌≤◌, List, length, refl, inl, inr, ⊎_elim, arith}
+use Rattle.std.proofs.Common.{◌≡◌, ℕ, ◌+◌, ◌-◌, ◌<◌, ◌≤◌, List, length, refl, inl, inr, ⊎_elim, lt_of_not-le, arith}
 use Rattle.std.proofs.lemmas.Bool.{cases_lt, cases_eq}
 use Rattle.indication.specs.declared.header.Kind.{Kind}
 use Rattle.indication.specs.declared.header.Kind.TheVariants as kind
@@ -10,7 +10,7 @@ use Rattle.indication.specs.Rules.{Accepted, BrokenHeader, InOrder, MisusedAt, u
 
 -- a fact whose opposite is refuted
 at_most : (n m : ℕ) → (n < m → ⊥) → m ≤ n
-at_most n m h = ⊎_elim (λ l. absurd (h l)) (λ l. l) (cases_lt n m)
+at_most n m h = omega (arith, lt_of_not-le h)
 
 same : (n m : ℕ) → ((n ≡ m → ⊥) → ⊥) → n ≡ m
 same n m h = ⊎_elim (λ e. e) (λ e. absurd (h e)) (cases_eq n m)

@@ -1,6 +1,7 @@
 -- The byte that stands for each case, and the case that a byte stands for.
 -- An accepted indication has no byte but those of the first kind; the second say what any byte is read as.
-use Rattle.std.specs.Prelude.{ℕ, cond, ◌==◌}
+use Rattle.std.specs.Prelude.{◌≡◌, ◌≢◌, ℕ, cond, ◌==◌, Result, MatchResult}
+use Rattle.indication.specs.declared.code.UnknownCode.{UnknownCode}
 use Rattle.indication.specs.declared.entry.Usage.{Usage}
 use Rattle.indication.specs.declared.entry.Usage.TheVariants as usage
 use Rattle.indication.specs.declared.header.Kind.{Kind}
@@ -42,3 +43,8 @@ abbrev pub usage_of : ℕ → Usage
 usage_of code =
     cond (code == 0) usage.Periodic
     (cond (code == 1) usage.OneTime (cond (code == 2) usage.SetUp (cond (code == 3) usage.Attempt usage.AddOn)))
+
+-- The result is the case that has this code, or an error with a code that no case has.
+abbrev pub Decodes : {Case : Type 0} → (Case → ℕ) → ℕ → Result Case UnknownCode → Type 0
+Decodes {Case} code_of code r =
+    MatchResult r (λ this. code_of this ≡ code) (λ e. (e.0 ≡ code) × ((other : Case) → code_of other ≢ code))

@@ -4,3 +4,4 @@ pub mod Codes
 pub mod Format
 pub mod Rules
 pub mod Fits
+pub mod Words

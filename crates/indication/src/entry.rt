@@ -1,5 +1,9 @@
 //! The entries of a tariff or an add-on: a charge, and the term on which it is taken.
 
+ghost use Rattle.indication.specs.Codes.{Decodes, usage_code};
+
+use crate::code::UnknownCode;
+
 /// What a charge is taken for.
 #[derive(Clone, Copy, PartialEq, Eq, Debug)]
 pub enum Usage {
@@ -15,6 +19,23 @@ pub enum Usage {
     AddOn = 4,
 }
 
+impl TryFrom<u8> for Usage {
+    type Error = UnknownCode;
+
+    ghost try_from_gives = { Decodes usage_code };
+
+    fn try_from(code: u8) -> Result<Self, UnknownCode> {
+        match code {
+            0 => Ok(Usage::Periodic),
+            1 => Ok(Usage::OneTime),
+            2 => Ok(Usage::SetUp),
+            3 => Ok(Usage::Attempt),
+            4 => Ok(Usage::AddOn),
+            _ => Err(UnknownCode(code)),
+        }
+    }
+}
+
 /// An amount as the operator writes it; only a charge unit says what it is worth.
 #[derive(Clone, Copy, PartialEq, Eq, Debug)]
 pub struct Charge {
@@ -26,6 +47,7 @@ pub struct Charge {
 #[derive(Clone, Copy, PartialEq, Eq, Debug)]
 pub struct Term {
     pub usage: Usage,
+    // any number, since the writer is handed what an operator wrote, and refuses a duration that the use may not have
     pub duration: u16,
 }
 

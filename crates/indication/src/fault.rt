@@ -40,6 +40,7 @@ pub enum Fault {
 }
 
 impl Fault {
+    // a number, since an exchange is told numbers, and the one with the smallest goes first
     pub fn number(self) -> u8
         ensures { result ≡ number_of self }
     {

@@ -2,9 +2,11 @@
 
 #![tactic(auto)]
 
+pub mod code;
 pub mod entries;
 pub mod entry;
 pub mod fault;
 pub mod header;
 mod table;
 pub mod value;
+mod words;

@@ -1,4 +1,4 @@
-ghost use Rattle.std.specs.Prelude.{◌≡◌, ◌<◌, ◌≤◌, [], ◌∷◌, ◌++◌, length, MatchResult, ◌==◌};
+ghost use Rattle.std.specs.Prelude.{◌≡◌, ◌<◌, [], ◌∷◌, ◌++◌, length, MatchResult};
 ghost use Rattle.indication.specs.Format.{listed};
 
 use crate::entries::Entries;
@@ -20,29 +20,17 @@ impl Entries {
     }
 
     /// One entry more, at the end; given back where there are six already.
+    #[tactic(auto, using(std::proofs::lemmas::List::take_more_set))]
     pub fn push(&mut self, entry: Entry) -> Result<(), Entry>
         ensures { MatchResult result (λ _. (length (listed self.old) < 6) × (listed self.new ≡ listed self.old ++ entry ∷ [])) (λ back. (length (listed self.old) ≡ 6) × (listed self.new ≡ listed self.old) × (back ≡ entry)) }
     {
-        if self.is_full() {
+        // by index: `get_mut` does not say what the array holds afterwards
+        if self.count == self.slots.len() {
             return Err(entry);
         }
-        self.add(entry);
-        Ok(())
-    }
-
-    fn is_full(&self) -> bool
-        ensures value { result ≡ (length (listed self.now) == 6) }
-        ensures self_len_bound { length (listed self.now) ≤ 6 }
-    {
-        self.count == 6
-    }
-
-    fn add(&mut self, entry: Entry)
-        requires { length (listed self.old) < 6 }
-        ensures { listed self.new ≡ listed self.old ++ entry ∷ [] }
-    {
         self.slots[self.count] = entry;
         self.count += 1;
+        Ok(())
     }
 
     pub fn as_slice(&self) -> &[Entry]
