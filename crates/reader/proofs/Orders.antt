@@ -1,5 +1,5 @@
 -- The uses up to the k-th are in order just where those before it are and it goes on with them.
-use Rattle.std.proofs.Common.{◌≡◌, ℕ, ◌+◌, ◌-◌, ◌<◌, inl, inr, ⊎_elim, arith}
+use Rattle.std.proofs.Common.{◌≡◌, ℕ, zero, suc, ◌+◌, ◌-◌, ◌<◌, ◌≤◌, Some, None, Option, MatchOption, inl, inr, ⊎_elim, arith}
 use Rattle.std.proofs.lemmas.Bool.{cases_lt}
 use Rattle.indication.specs.Rules.{InOrder, Attempt}
 use Rattle.reader.specs.Order.{GoesOn}
@@ -16,7 +16,7 @@ attempt_first u n o k h a =
     (λ l. ⊎_elim (λ m. omega (arith, o.set_ups k l m)) (λ m. omega (arith, o.subtariffs k m h)) (cases_lt k o.t))
     (cases_lt k o.s)
 
-pub order_more : (u : ℕ → ℕ) (k : ℕ) → InOrder u k → GoesOn u k → InOrder u (k + 1)
+order_more : (u : ℕ → ℕ) (k : ℕ) → InOrder u k → GoesOn u k → InOrder u (k + 1)
 order_more u k o (inl (a, first)) = record {
   s = 1;
   t = 1;
@@ -69,7 +69,7 @@ order_more u k o (inr (inr (a, h))) = record {
   subtariffs = λ j l m. ⊎_elim (λ l2. o.subtariffs j l l2) (λ g. let e : j ≡ k = omega arith in rw e a) (cases_lt j k);
 }
 
-pub order_goes_on : (u : ℕ → ℕ) (k : ℕ) → InOrder u (k + 1) → GoesOn u k
+order_goes_on : (u : ℕ → ℕ) (k : ℕ) → InOrder u (k + 1) → GoesOn u k
 order_goes_on u k o =
     ⊎_elim (λ l. inl (o.attempts k l, omega arith))
     (λ l. ⊎_elim
@@ -84,7 +84,7 @@ order_goes_on u k o =
     (cases_lt k o.t))
     (cases_lt k o.s)
 
-pub order_none : (u : ℕ → ℕ) → InOrder u 0
+order_none : (u : ℕ → ℕ) → InOrder u 0
 order_none u = record {
   s = 0;
   t = 0;
@@ -95,3 +95,19 @@ order_none u = record {
   set_ups = λ j h l. absurd (omega arith);
   subtariffs = λ j h l. absurd (omega arith);
 }
+
+-- uses that each go on with the order are in order
+in_order : (u : ℕ → ℕ) (n : ℕ) → ((k : ℕ) → 0 ≤ k → k < n → GoesOn u k) → InOrder u n
+in_order u zero h = order_none u
+in_order u (suc n) h =
+    let e : suc n ≡ n + 1 = omega arith in
+    rw e (order_more u n (in_order u n (λ k l m. h k l (omega arith))) (h n (omega arith) (omega arith)))
+
+-- the first use that does not go on with the order is the first up to which they are not in order
+pub leaves_order :
+    (u : ℕ → ℕ) (n : ℕ) (r : Option ℕ)
+    → MatchOption r ((k : ℕ) → 0 ≤ k → k < n → GoesOn u k) (λ i. (0 ≤ i) × (i < n) × (GoesOn u i → ⊥) × ((k : ℕ) → 0 ≤ k → k < i → GoesOn u k))
+    → MatchOption r ((k : ℕ) → 0 ≤ k → k < n → InOrder u (k + 1)) (λ i. (0 ≤ i) × (i < n) × (InOrder u (i + 1) → ⊥) × ((k : ℕ) → 0 ≤ k → k < i → InOrder u (k + 1)))
+leaves_order u n None h = λ k _ l. in_order u (k + 1) (λ j m g. h j m (omega arith))
+leaves_order u n (Some i) (z, l, wrong, h) =
+    (z, l, λ o. wrong (order_goes_on u i o), λ k _ m. in_order u (k + 1) (λ j p g. h j p (omega arith)))

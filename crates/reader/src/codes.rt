@@ -1,57 +1,23 @@
-ghost use Rattle.indication.specs.Codes.{change_of, control_of, kind_of, usage_of};
-ghost use Rattle.indication.specs.Format.{header_of};
-ghost use Rattle.std.specs.Prelude.{◌≡◌};
+ghost use Rattle.indication.specs.Codes.{kind_code, usage_code};
+ghost use Rattle.indication.specs.Format.{byte as byte_at, term_offset};
+ghost use Rattle.std.specs.Prelude.{◌≡◌, ◌<◌, ◌⊎◌, MatchOption};
 
-use crate::bytes::byte;
+use crate::bytes::{byte, term_offset};
 use indication::entry::Usage;
-use indication::header::{Change, Kind, Mark, TariffControl};
+use indication::header::Kind;
 
-// What each code stands for. An accepted indication has no other codes than those named here; the last arm takes them.
-
-pub(crate) fn kind_of(code: u8) -> Kind
-    ensures { result ≡ kind_of code }
+// The kind that the bytes name, if their code is one of a kind.
+#[tactic(auto, using(crate::proofs::Decoded::decodings))]
+pub(crate) fn kind(bytes: &[u8]) -> Option<Kind>
+    ensures { let code = byte_at bytes.now 2 in MatchOption result ((code ≡ 0) ⊎ (2 < code)) (λ kind. kind_code kind ≡ code) }
 {
-    match code {
-        1 => Kind::Tariff,
-        _ => Kind::AddOn,
-    }
+    Kind::try_from(byte(bytes, 2)).ok()
 }
 
-pub(crate) fn change_of(code: u8) -> Change
-    ensures { result ≡ change_of code }
+// The use that entry i names, if its code is one of a use.
+#[tactic(auto, using(crate::proofs::Decoded::decodings))]
+pub(crate) fn usage(bytes: &[u8], i: u16) -> Option<Usage>
+    ensures { let code = byte_at bytes.now (term_offset bytes.now i) in MatchOption result (4 < code) (λ usage. usage_code usage ≡ code) }
 {
-    match code {
-        0 => Change::WithoutRestart,
-        _ => Change::WithRestart,
-    }
-}
-
-pub(crate) fn control_of(code: u8) -> TariffControl
-    ensures { result ≡ control_of code }
-{
-    match code {
-        0 => TariffControl::Cyclic,
-        _ => TariffControl::NonCyclic,
-    }
-}
-
-pub(crate) fn usage_of(code: u8) -> Usage
-    ensures { result ≡ usage_of code }
-{
-    match code {
-        0 => Usage::Periodic,
-        1 => Usage::OneTime,
-        2 => Usage::SetUp,
-        3 => Usage::Attempt,
-        _ => Usage::AddOn,
-    }
-}
-
-pub(crate) fn mark_of(bytes: &[u8]) -> Mark
-    ensures { result ≡ (header_of bytes.now).mark }
-{
-    Mark {
-        kind: byte(bytes, 7),
-        letters: [byte(bytes, 8), byte(bytes, 9), byte(bytes, 10)],
-    }
+    Usage::try_from(byte(bytes, term_offset(bytes, i))).ok()
 }

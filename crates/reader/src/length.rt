@@ -1,18 +1,17 @@
-ghost use Rattle.std.specs.Prelude.{◌≤◌, length, IfNone};
 ghost use Rattle.indication.specs.Rules.{First, IsEmpty, Tells, WrongLengthAt};
 
-use crate::bytes::{byte, entry_count};
+use crate::bytes::entry_count;
+use crate::codes::kind;
 use indication::header::Kind;
 
 // Where a length that is not the one that the counts ask for shows.
 pub(crate) fn wrong_length(bytes: &[u8]) -> Option<usize>
-    ensures first { First (WrongLengthAt bytes.now) result }
-    ensures none { IfNone result (24 ≤ length bytes.now) }
+    ensures { First (WrongLengthAt bytes.now) result }
 {
     if bytes.len() < 24 {
         return Some(bytes.len());
     }
-    let full = 24 + 9 * entry_count(bytes);
+    let full = 24 + 9 * usize::from(entry_count(bytes));
     if bytes.len() == full {
         return None;
     }
@@ -23,5 +22,5 @@ pub(crate) fn wrong_length(bytes: &[u8]) -> Option<usize>
 pub(crate) fn is_empty(bytes: &[u8]) -> bool
     ensures { Tells result (IsEmpty bytes.now) }
 {
-    byte(bytes, 2) == Kind::Tariff as u8 && byte(bytes, 0) == 0 && byte(bytes, 1) == 0
+    kind(bytes) == Some(Kind::Tariff) && entry_count(bytes) == 0
 }

@@ -68,9 +68,7 @@ impl<'a> Reader<'a> {
     pub fn charge(&self, i: usize) -> Option<Charge>
         ensures { result ≡ if_entry (lent self.now) i (charge_at (lent self.now) i) }
     {
-        if i >= entry_count(self.bytes) {
-            return None;
-        }
+        let i = self.entry(i)?;
         Some(charge_at(self.bytes, i))
     }
 
@@ -78,10 +76,16 @@ impl<'a> Reader<'a> {
     pub fn term(&self, i: usize) -> Option<Term>
         ensures { result ≡ if_entry (lent self.now) i (term_at (lent self.now) i) }
     {
-        if i >= entry_count(self.bytes) {
-            return None;
-        }
+        let i = self.entry(i)?;
         Some(term_at(self.bytes, i))
+    }
+
+    // The index of entry i, where there is such an entry.
+    fn entry(&self, i: usize) -> Option<u16>
+        ensures { result ≡ if_entry (lent self.now) i i }
+    {
+        let count = entry_count(self.bytes);
+        u16::try_from(i).ok().filter(|i| *i < count)
     }
 
     /// The indication as a value of its own. Written again, an accepted one gives the same bytes.

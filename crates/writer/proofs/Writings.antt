@@ -1,12 +1,11 @@
 -- What a copy into the buffer comes to.
-use Rattle.std.proofs.Common.{◌≡◌, ℕ, ◌-◌, ◌≤◌, List, ◌++◌, length, drop, ap, ◌∙◌, subst, inl, arith}
+use Rattle.std.proofs.Common.{◌≡◌, ℕ, ◌-◌, ◌≤◌, List, ◌++◌, length, drop, ap, ◌∙◌, subst, arith}
 use borrow.Rule.Slice.PartMut.{post_of}
-use Rattle.indication.specs.declared.fault.Fault.{Fault}
 use Rattle.indication.specs.Fits.{Fits}
 use Rattle.indication.specs.Format.{Content, encoded}
-use Rattle.indication.specs.Rules.{Accepted, Refused}
+use Rattle.indication.specs.Rules.{Accepted}
 use Rattle.indication.proofs.Reread.{decoded_encoded}
-use Rattle.writer.specs.Writing.{Written, Unwritable}
+use Rattle.writer.specs.Writing.{Written}
 
 pub copied :
     (c : Content) (w b before part : List ℕ) → Fits c → w ≡ encoded c → b ≡ w → Accepted c.header.kind b
@@ -22,8 +21,3 @@ copied c w b before part fits is read ok room copy =
       bytes = ap (λ p. p ++ drop (length b - 0) before) (copy ∙ e) ∙ ap (λ k. encoded c ++ drop k before) n;
       reads_back = decoded_encoded c fits;
     }
-
--- the refusal of the bytes is that of the content
-pub refused_as :
-    (c : Content) (w b : List ℕ) (room : ℕ) (f : Fault) → w ≡ encoded c → b ≡ w → Refused c.header.kind b f → Unwritable c room f
-refused_as c w b room f is read r = inl (subst (λ x. Refused c.header.kind x f) (read ∙ is) r)

@@ -1,2 +1,1 @@
-pub mod Encodings
 pub mod Writing

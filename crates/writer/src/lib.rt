@@ -4,7 +4,6 @@
 
 mod encoding;
 mod fields;
-mod parts;
 mod writing;
 
 pub use writing::write;

@@ -2,7 +2,7 @@ ghost use Rattle.indication.specs.Format.{content_of};
 ghost use Rattle.writer.specs.Writing.{Unwritable, Written};
 ghost use Rattle.std.specs.Prelude.{◌≡◌, length, MatchResult};
 
-use crate::encoding::Encoding;
+use crate::encoding::encoding_of;
 use indication::fault::Fault;
 use indication::value::Indication;
 use reader::Reader;
@@ -11,7 +11,7 @@ use reader::Reader;
 pub fn write(indication: &Indication, out: &mut [u8]) -> Result<usize, Fault>
     ensures { MatchResult result (λ n. Written (content_of indication.now) out.old out.new n) (λ f. Unwritable (content_of indication.now) (length out.old) f × (out.new ≡ out.old)) }
 {
-    let encoding = Encoding::of(indication);
+    let encoding = encoding_of(indication);
     let bytes = encoding.as_slice();
     Reader::read(bytes, indication.header.kind)?;
     if out.len() < bytes.len() {

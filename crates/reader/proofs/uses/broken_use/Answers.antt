@@ -1,10 +1,7 @@
-use Rattle.reader.proofs.Misuses.{found, left_to_next}
+use Rattle.std.proofs.Common.{rules}
+use Rattle.reader.proofs.Misuses.{first_of_both}
 use Rattle.reader.proofs.uses.broken_use.Goals as goal
 
-pub returns-in-Some : goal.returns-in-Some
-returns-in-Some c = found _ _ _ _ c.if-kind.true c.byte-kind.ensures c.byte-current.ensures c.in-Some.ensures
-
-pub returns-then-kind : goal.returns-then-kind
-returns-then-kind c =
-    left_to_next _ _ _ _ _ c.if-kind.true c.byte-kind.ensures c.byte-current.ensures c.byte-next.ensures
-    c.in_default.ensures c.misused-then-kind.ensures
+pub returns-in-Some-Tariff : goal.returns-in-Some-Tariff
+returns-in-Some-Tariff c =
+    first_of_both c.args.bytes.now c.byte-current.result c.byte-next.result c.misused.result c.or_else.result c.byte-current.ensures c.byte-next.ensures (search rules) c.misused.ensures (search rules)

@@ -5,5 +5,5 @@ use Rattle.reader.proofs.values.indication_of.Goals as goal
 
 pub returns : goal.returns
 returns c =
-    let says : ◌≡◌ {A = Content} (content_of record { header = c.header_of-header.result; current = c.entries-current.result; next = c.entries-next.result }) (decoded c.args.bytes.now) = cc in
+    let says : ◌≡◌ {A = Content} (content_of record { header = c.header_of.result; current = c.entries.result; next = c.entries-2.result }) (decoded c.args.bytes.now) = cc in
     record { says = says; again = λ taken ok. ap encoded says ∙ encoded_decoded c.args.bytes.now (λ i. (c.type_inv.bytes i).fits) taken ok }
