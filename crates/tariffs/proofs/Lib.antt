@@ -1,5 +1,6 @@
 mod Uses
 mod Slots
+mod Filling
 pub mod Sums
 mod Parts
 mod Lengths

@@ -1,61 +1,39 @@
--- Slots, one by one, and the subtariffs of a tariff's entries put into them.
-use Rattle.std.proofs.Common.{◌≡◌, ℕ, zero, suc, ◌+◌, ◌<◌, ◌≤◌, min, true, false, ◌⊎◌, List, [], ◌∷◌, ◌++◌, map, length, get_or, take, drop, set, is_some, Some, None, Option, sym, refl, ap, ◌∙◌, inl, inr, arith}
-use Rattle.std.proofs.lemmas.List.{append-nil, at_drop_more, map_more, length_push, set_past}
-use Rattle.std.proofs.lemmas.Bool.{true≢false, false≢true}
+-- The subtariffs in the slots, as a loop goes through them.
+use Rattle.std.proofs.Common.{◌≡◌, ℕ, ◌+◌, ◌<◌, ◌≤◌, false, List, [], ◌∷◌, length, get_or, drop, Some, None, Option, refl, sym, ap, ◌∙◌, subst, arith}
+use Rattle.std.proofs.lemmas.List.{at_drop_more}
+use Rattle.std.proofs.lemmas.Iterator.{YieldsList}
+use Rattle.std.proofs.lemmas.Iterator.Adapters.{YieldsList-from_flatten, YieldsList-from_once}
+use Rattle.std.specs.Iterator.Adapters.{flatten_source, flatten_front, flatten_back, flatten_done, flatten_steps, once_item, once_steps, OnceYieldsItsItem}
+use Rattle.std.specs.List.{flat_map}
+use Rattle.std.specs.Option.{option_len, option_to_list}
+use Rattle.std.specs.declared.iter.Flatten.{Flatten}
+use Rattle.std.specs.declared.iter.Once.{Once}
 use Rattle.tariffs.specs.declared.tariff.Subtariff.{Subtariff}
-use Rattle.tariffs.specs.Making.{slotted}
 use Rattle.tariffs.specs.Sequences.{listed}
 
--- what is left of the slots begins with slot i
-pub at_slot :
-    {X Y : Type 0} (F : List (Option X) → Y) (slots : List (Option X)) (i : ℕ) (o : Option X) → i < length slots → get_or slots i None ≡ o
-    → F (drop i slots) ≡ F (o ∷ drop (i + 1) slots)
-at_slot F slots i o h e = at_drop_more F slots i None h ∙ ap (λ p. F (p ∷ drop (i + 1) slots)) e
+listed_is : (slots : List (Option Subtariff)) → flat_map option_to_list slots ≡ listed slots
+listed_is [] = refl
+listed_is (None ∷ slots) = listed_is slots
+listed_is (Some s ∷ slots) = ap (λ ss. s ∷ ss) (listed_is slots)
 
-listed_append : (xs ys : List (Option Subtariff)) → listed (xs ++ ys) ≡ listed xs ++ listed ys
-listed_append [] ys = refl
-listed_append (None ∷ xs) ys = listed_append xs ys
-listed_append (Some s ∷ xs) ys = ap (λ zs. s ∷ zs) (listed_append xs ys)
+-- the iterator of a slot
+abbrev pub Opens : Option Subtariff → Once Subtariff → Type 0
+Opens slot it = (once_item it ≡ slot) × (option_len (once_item it) ≤ 1) × OnceYieldsItsItem Subtariff
 
--- one more goes into the slot after the last, and nowhere once all are taken
-slotted_push : (n : ℕ) (ss : List Subtariff) (s : Subtariff) → slotted n (ss ++ s ∷ []) ≡ set (slotted n ss) (length ss) (Some s)
-slotted_push zero ss s = refl
-slotted_push (suc n) [] s = refl
-slotted_push (suc n) (x ∷ ss) s = ap (λ zs. Some x ∷ zs) (slotted_push n ss s)
+-- flattened, slots give the subtariffs in them
+pub each_listed :
+    {S : Type 0} {steps : S → Option (Option Subtariff) → S → Type 0} {s : Flatten S (Once Subtariff)} (slots : List (Option Subtariff))
+    → YieldsList steps (λ o. o) (flatten_source s) slots → flatten_front s ≡ None → flatten_back s ≡ None → flatten_done s ≡ false
+    → YieldsList (flatten_steps steps Opens once_steps) (λ x. x) s (listed slots)
+each_listed {S} {steps} {s} slots source front back done =
+    subst (YieldsList (flatten_steps steps Opens once_steps) (λ x. x) s) (listed_is slots)
+    (YieldsList-from_flatten Opens once_steps (λ x. x) option_to_list (λ x j opens. YieldsList-from_once x opens.0) source front back done)
 
-length_slotted : (n : ℕ) (ss : List Subtariff) → length (slotted n ss) ≡ n
-length_slotted zero ss = refl
-length_slotted (suc n) [] = ap suc (length_slotted n [])
-length_slotted (suc n) (x ∷ ss) = ap suc (length_slotted n ss)
+pub length_listed : (slots : List (Option Subtariff)) → length (listed slots) ≤ length slots
+length_listed [] = omega arith
+length_listed (None ∷ slots) = omega (arith, length_listed slots)
+length_listed (Some s ∷ slots) = omega (arith, length_listed slots)
 
--- the first n of ss stand in n slots, and `count` says how many they are
-abbrev pub Filled : ℕ → List Subtariff → List (Option Subtariff) → ℕ → Type 0
-Filled n ss slots count = (slots ≡ slotted n ss) × (count ≡ min n (length ss))
-
-filled_none : (n : ℕ) (ss : List Subtariff) (slots : List (Option Subtariff)) (count : ℕ) → Filled n ss slots count → Filled n (ss ++ []) slots count
-filled_none n ss slots count h = rw append-nil h
-
-pub filled_kept :
-    (n : ℕ) (ss : List Subtariff) (slots : List (Option Subtariff)) (count : ℕ) (o : Option Subtariff)
-    → (is_some o ≡ false) ⊎ (n ≤ count) → Filled n ss slots count → Filled n (ss ++ listed (o ∷ [])) slots count
-filled_kept n ss slots count None _ h = filled_none n ss slots count h
-filled_kept n ss slots count (Some s) (inr full) (is, many) = (
-  is ∙ sym (slotted_push n ss s ∙ set_past _ _ _ (omega (arith, length_slotted n ss))),
-  omega (arith, length_push ss s),
-)
-filled_kept n ss slots count (Some s) (inl none) h = absurd (true≢false none)
-
-pub filled_more :
-    (n : ℕ) (ss : List Subtariff) (slots : List (Option Subtariff)) (count : ℕ) (o : Option Subtariff)
-    → is_some o ≡ true → count < n → Filled n ss slots count → Filled n (ss ++ listed (o ∷ [])) (set slots count o) (count + 1)
-filled_more n ss slots count None none room h = absurd (false≢true none)
-filled_more n ss slots count (Some s) _ room (is, many) =
-    let all : count ≡ length ss = omega arith in
-    (rw (is, all) (sym (slotted_push n ss s)), omega (arith, length_push ss s))
-
--- what the first entries say, with one entry more
-pub listed_more :
-    {X : Type 0} (f : X → Option Subtariff) (xs : List X) (i : ℕ) (d : X) (o : Option Subtariff) → i < length xs → o ≡ f (get_or xs i d)
-    → listed (map f (take (i + 1) xs)) ≡ listed (map f (take i xs)) ++ listed (o ∷ [])
-listed_more f xs i d o h e =
-    ap listed (map_more f xs i d h) ∙ listed_append (map f (take i xs)) _ ∙ ap (λ p. listed (map f (take i xs)) ++ listed (p ∷ [])) (sym e)
+-- what is left of a list begins with the item of this turn
+pub rest_at : (ss : List Subtariff) (k : ℕ) (s : Subtariff) → (k < length ss) × (s ≡ get_or ss k s) → drop k ss ≡ s ∷ drop (k + 1) ss
+rest_at ss k s (l, is) = at_drop_more (λ rest. rest) ss k s l ∙ ap (λ x. x ∷ drop (k + 1) ss) (sym is)

@@ -1,5 +1,5 @@
 -- The parts that the price of a stretch is made of.
-use Rattle.std.specs.Prelude.{◌≡◌, ℕ, ◌+◌, ◌-◌, ◌/◌, ◌%◌, ◌≤◌, min, true, cond, List, is_some, Option, ◌==◌}
+use Rattle.std.specs.Prelude.{◌≡◌, ℕ, ◌+◌, ◌-◌, ◌/◌, ◌%◌, ◌≤◌, min, true, cond, List, Some, None, is_some, Option, ◌==◌}
 use Rattle.std.specs.List.{AllByRecursion}
 use Rattle.units.specs.Meanings.{Meaning, counted}
 use Rattle.tariffs.specs.declared.tariff.Charging.{Charging}
@@ -7,7 +7,7 @@ use Rattle.tariffs.specs.declared.tariff.Charging.TheVariants.{Periodic, OneTime
 use Rattle.tariffs.specs.declared.tariff.Subtariff.{Subtariff}
 use Rattle.tariffs.specs.declared.tariff.Tariff.{Tariff}
 use Rattle.tariffs.specs.declared.rounds.InRounds.{InRounds}
-use Rattle.tariffs.specs.Sequences.{Admitted, Priced, charged, recurs, round_length, sequence, sum, within}
+use Rattle.tariffs.specs.Sequences.{Admitted, Priced, charged, recurs, round_length, sequence, sum, unending, within}
 
 -- how many times a subtariff takes its charge over the n seconds from its offset p on
 abbrev pub times_taken : Charging → Meaning → Subtariff → ℕ → ℕ → ℕ
@@ -17,6 +17,10 @@ times_taken OneTime m s p n = cond (p == 0) (m.lump s.charge s.duration) 0
 -- what a sequence takes over the n seconds from its second p on
 abbrev pub taken_over : Meaning → List Subtariff → ℕ → ℕ → ℕ
 taken_over m ss p n = sum (λ k. within m ss (p + k)) n
+
+-- how many seconds the subtariffs of a sequence take in all, where it has an end
+abbrev pub whole_length : List Subtariff → Option ℕ
+whole_length ss = cond (unending ss) None (Some (round_length ss))
 
 -- how many seconds a round takes, and 0 where the sequence does not begin again
 abbrev pub round_of : Tariff → ℕ

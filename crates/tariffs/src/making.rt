@@ -23,14 +23,13 @@ impl Tariff {
 fn first_charge(entries: &[Entry], usage: Usage) -> Option<Charge>
     ensures { result ≡ first_charge usage entries.now }
 {
-    for entry in entries {
-        if entry.term.usage == usage {
-            return Some(entry.charge);
-        }
-    }
-    None
+    entries
+        .iter()
+        .find(|entry| entry.term.usage == usage)
+        .map(|entry| entry.charge)
 }
 
+// An `Option` and no `TryFrom`: an entry that is no subtariff is no error.
 fn subtariff_of(entry: Entry) -> Option<Subtariff>
     ensures { result ≡ subtariff_of entry }
 {

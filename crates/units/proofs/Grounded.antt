@@ -1,19 +1,31 @@
 -- The refusal that comes first, with the unit's grounds beside the reader's.
-use Rattle.std.proofs.Common.{◌≡◌, ℕ, ◌<◌, ◌≤◌, true, false, ◌⊎◌, List, Some, None, Option, refl, inl, inr, ⊎_elim, arith}
+use Rattle.std.proofs.Common.{◌≡◌, ℕ, ◌+◌, ◌*◌, ◌<◌, ◌≤◌, true, false, ◌⊎◌, List, Some, None, Option, refl, inl, inr, ⊎_elim, arith}
+use Rattle.std.proofs.lemmas.Bool.Decides.{nat_tests}
+use Rattle.std.specs.Option.{MatchOption, IsSomeAnd}
 use Rattle.std.proofs.lemmas.Bool.{both_ways}
 use Rattle.indication.specs.declared.header.Kind.{Kind}
 use Rattle.indication.specs.declared.fault.Fault.{Fault}
 use Rattle.indication.specs.declared.fault.Fault.TheVariants.{WrongLength, BrokenLayout, EmptyTariff, WrongDuration, ForeignMark, NotAdmitted, NoRoom, TooManyIndications, AddOnBeforeTariff, NoCurrentTariff, TooManyNetworks, PastLimit}
 use Rattle.indication.specs.Faults.{number_of}
-use Rattle.indication.specs.Format.{header_of}
+use Rattle.indication.specs.Format.{entry_count, header_of}
 use Rattle.indication.specs.Rules.{First, Grounds, Precedes, Foremost, Groundless, Refused, Accepted}
 use Rattle.indication.proofs.Grounded.{grounded_all}
 use Rattle.units.specs.Meanings.{Meaning}
-use Rattle.units.specs.Admission.{UnitGrounds, NotAdmittedAt}
+use Rattle.units.specs.Admission.{UnitGrounds, NotAdmittedAt, admits_at}
 
--- the first charge that is not admitted, in the same bytes by another name
-pub moved : (m : Meaning) (a b : List ℕ) (r : Option ℕ) → a ≡ b → First (NotAdmittedAt m a) r → First (NotAdmittedAt m b) r
-moved m a b r e h = rw e at h
+-- the first charge that is not admitted, from the first entry that the unit does not admit
+pub first_charge :
+    (m : Meaning) (b : List ℕ) (n : ℕ) (found r : Option ℕ)
+    → MatchOption found ((i : ℕ) → i < n → admits_at m b i ≡ true) (λ x. (admits_at m b x ≡ false) × (x < n) × ((i : ℕ) → i < x → admits_at m b i ≡ true))
+    → n ≡ entry_count b
+    → MatchOption found (r ≡ None) (λ i. IsSomeAnd r (λ at. at ≡ 24 + 6 * i))
+    → First (NotAdmittedAt m b) r
+first_charge m b n None r all count none = rw none (λ at (i, l, at_is, wrong). grind (arith, nat_tests, all i))
+first_charge m b n (Some x) None first count is = absurd is
+first_charge m b n (Some x) (Some at) first count is = (
+  (x, grind arith, is, grind (arith, nat_tests)),
+  λ other (i, l, at_is, wrong). grind (arith, nat_tests, first.2 i),
+)
 
 module _ (m : Meaning) (taken : Kind) (b : List ℕ) where
   -- what holds of every refusal with a ground, from what holds of the reader's and of the unit's

@@ -1,3 +1,4 @@
 pub mod Counts
 mod Multiples
+mod Searches
 pub mod Grounded

@@ -14,11 +14,16 @@ use indication::header::Mark;
 #[derive(Clone, Copy)]
 pub struct Currency;
 
+const EURO: Mark = Mark {
+    kind: 0,
+    letters: *b"EUR",
+};
+
 // Whether the factor is at most 999,999 and the scale -7 to 3.
 fn well_scaled(charge: Charge) -> bool
     ensures { result ≡ well_scaled charge }
 {
-    charge.size <= 999999 && charge.step >= -7 && charge.step <= 3
+    charge.size <= 999999 && (-7..=3).contains(&charge.step)
 }
 
 impl Unit for Currency {
@@ -36,8 +41,7 @@ impl Unit for Currency {
         } };
 
     fn owns(&self, mark: Mark) -> bool {
-        let [a, b, c] = mark.letters;
-        mark.kind == 0 && a == b'E' && b == b'U' && c == b'R'
+        mark == EURO
     }
 
     fn fits(&self, charge: Charge, _usage: Usage) -> bool {
@@ -46,7 +50,7 @@ impl Unit for Currency {
 
     fn price(&self, charge: Charge) -> u64 {
         if well_scaled(charge) {
-            charge.size as u64 * 10u64.pow((charge.step + 7) as u32)
+            u64::from(charge.size) * 10u64.pow((charge.step + 7) as u32)
         } else {
             0
         }

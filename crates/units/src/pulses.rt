@@ -14,11 +14,16 @@ use indication::header::Mark;
 #[derive(Clone, Copy)]
 pub struct Pulses;
 
+const PULSES: Mark = Mark {
+    kind: 1,
+    letters: [0; 3],
+};
+
 // Whether there are at most 255 pulses, and a step from `low` to `high`.
 fn in_steps(charge: Charge, low: i16, high: i16) -> bool
     ensures { result ≡ stepped low high charge }
 {
-    charge.size <= 255 && charge.step >= low && charge.step <= high
+    charge.size <= 255 && (low..=high).contains(&charge.step)
 }
 
 // How many multiples of the interval lie below `end`.
@@ -34,8 +39,8 @@ fn multiples_within(from: u32, count: u32, interval: u64) -> u32
     requires { 0 < interval }
     ensures { result ≡ counted (λ j. nat_eq (j % interval) 0) from count }
 {
-    let from = from as u64;
-    let end = from + count as u64;
+    let from = u64::from(from);
+    let end = from + u64::from(count);
     (multiples_below(end, interval) - multiples_below(from, interval)) as u32
 }
 
@@ -54,8 +59,7 @@ impl Unit for Pulses {
         } };
 
     fn owns(&self, mark: Mark) -> bool {
-        let [a, b, c] = mark.letters;
-        mark.kind == 1 && a == 0 && b == 0 && c == 0
+        mark == PULSES
     }
 
     fn fits(&self, charge: Charge, usage: Usage) -> bool {
@@ -67,7 +71,7 @@ impl Unit for Pulses {
 
     fn price(&self, charge: Charge) -> u64 {
         if in_steps(charge, 0, 7200) {
-            charge.size as u64
+            u64::from(charge.size)
         } else {
             0
         }
@@ -81,6 +85,6 @@ impl Unit for Pulses {
     }
 
     fn lump(&self, _charge: Charge, duration: u16) -> u16 {
-        if duration > 36000 { 0 } else { duration.min(1) }
+        u16::from((1..=36000).contains(&duration))
     }
 }

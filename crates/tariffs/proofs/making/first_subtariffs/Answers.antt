@@ -2,7 +2,7 @@ use Rattle.std.proofs.Common.{map, sym, ap, ◌∙◌, inl, inr}
 use Rattle.std.proofs.lemmas.List.{take_all}
 use Rattle.tariffs.specs.Making.{slotted, subtariff_of}
 use Rattle.tariffs.specs.Sequences.{listed}
-use Rattle.tariffs.proofs.Slots.{listed_more, filled_more, filled_kept}
+use Rattle.tariffs.proofs.Filling.{listed_more, filled_more, filled_kept}
 use Rattle.tariffs.proofs.making.first_subtariffs.Goals as goal
 use Rattle.tariffs.proofs.making.first_subtariffs.Goals.{then-is_some+then-count-lt4, else-is_some, else-is_some-via-then-is_some+else-count-lt4, else-is_some-via-else-is_some}
 
