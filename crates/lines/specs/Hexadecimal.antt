@@ -1,7 +1,8 @@
 -- Bytes written as pairs of hexadecimal digits.
-use Rattle.std.specs.Prelude.{◌≡◌, ℕ, ◌+◌, ◌-◌, ◌*◌, ◌/◌, ◌%◌, ◌<◌, ◌≤◌, true, cond, ◌&&◌, List, [], ◌∷◌, length, is_some, Some, None, Option, nat_le, slice_index}
+use Rattle.std.specs.Prelude.{◌≡◌, ℕ, ◌+◌, ◌-◌, ◌*◌, ◌/◌, ◌%◌, ◌<◌, ◌≤◌, true, cond, ◌&&◌, List, [], ◌∷◌, length, is_some, Some, None, Option, nat_le, slice_index, ◌++◌, codes}
 use Rattle.lines.specs.declared.hexadecimal.HexFault.{HexFault}
 use Rattle.lines.specs.declared.hexadecimal.HexFault.TheVariants.{NotADigit, OddDigits, NoRoom}
+use Rattle.std.specs.Fmt.{decimal}
 use Rattle.std.specs.Option.{unwrap_or}
 
 -- What a byte is worth as a digit: '0' to '9', from 48 on, are worth 0 to 9; 'a' to 'f', from 97 on, and
@@ -48,3 +49,9 @@ abbrev pub Refused : List ℕ → ℕ → HexFault → Type 0
 Refused text room (NotADigit offset) = Stray text offset
 Refused text room OddDigits = Digits text × (length text % 2 ≡ 1)
 Refused text room NoRoom = Digits text × (length text % 2 ≡ 0) × (room < length text / 2)
+
+-- What a fault tells a person, who counts characters from 1.
+abbrev pub told : HexFault → List ℕ
+told (NotADigit offset) = codes "no hexadecimal digit at character " ++ decimal (offset + 1)
+told OddDigits = codes "an odd count of hexadecimal digits"
+told NoRoom = codes "more bytes than there is room for"

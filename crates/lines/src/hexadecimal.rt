@@ -1,7 +1,10 @@
 //! Bytes written as pairs of hexadecimal digits.
 
-ghost use Rattle.std.specs.Prelude.{◌≡◌, ◌<◌, ◌++◌, length, drop, IfSome, MatchOption, MatchResult};
-ghost use Rattle.lines.specs.Hexadecimal.{worth, Digit, Digits, Stray, byte_of, decoded, Accepted, Refused};
+ghost use Rattle.std.specs.Prelude.{Some, ◌≡◌, ◌<◌, ◌++◌, length, drop, IfSome, MatchOption, MatchResult};
+ghost use Rattle.lines.specs.Hexadecimal.{worth, Digit, Digits, Stray, byte_of, decoded, Accepted, Refused, told};
+
+use std::error::Error;
+use std::fmt;
 
 /// Why a text is not decoded.
 #[derive(Clone, Copy, PartialEq, Eq, Debug)]
@@ -13,6 +16,24 @@ pub enum HexFault {
     /// The text is pairs of digits, but more of them than the buffer has bytes.
     NoRoom,
 }
+
+impl fmt::Display for HexFault {
+    ghost output = { λ fault. Some (told fault) };
+
+    fn fmt<W: fmt::Write>(&self, f: &mut fmt::Formatter<W>) -> fmt::Result {
+        match *self {
+            HexFault::NotADigit { offset } => {
+                // one more than an offset always fits here
+                let character = offset as u128 + 1;
+                write!(f, "no hexadecimal digit at character {character}")
+            }
+            HexFault::OddDigits => f.write_str("an odd count of hexadecimal digits"),
+            HexFault::NoRoom => f.write_str("more bytes than there is room for"),
+        }
+    }
+}
+
+impl Error for HexFault {}
 
 /// What a digit is worth, in either case.
 fn digit(byte: u8) -> Option<u8>
@@ -39,12 +60,7 @@ fn byte(high: u8, low: u8) -> u8
 fn stray(text: &[u8]) -> Option<usize>
     ensures { MatchOption result (Digits text.now) (λ at. Stray text.now at) }
 {
-    for (offset, byte) in text.iter().enumerate() {
-        if digit(*byte).is_none() {
-            return Some(offset);
-        }
-    }
-    None
+    text.iter().position(|byte| digit(*byte).is_none())
 }
 
 /// Decodes a text of pairs of digits, in either case and the high one first, into the front of `out`, and
@@ -58,15 +74,15 @@ pub fn decode(text: &[u8], out: &mut [u8]) -> Result<usize, HexFault>
     if let Some(offset) = stray(text) {
         return Err(HexFault::NotADigit { offset });
     }
-    if text.len() % 2 != 0 {
+    let (pairs, alone) = text.as_chunks::<2>();
+    if !alone.is_empty() {
         return Err(HexFault::OddDigits);
     }
-    let count = text.len() / 2;
-    if out.len() < count {
+    if out.len() < pairs.len() {
         return Err(HexFault::NoRoom);
     }
-    for i in 0..count {
-        out[i] = byte(text[2 * i], text[2 * i + 1]);
+    for (place, [high, low]) in pairs.iter().enumerate() {
+        out[place] = byte(*high, *low);
     }
-    Ok(count)
+    Ok(pairs.len())
 }

@@ -1,10 +1,10 @@
-use Rattle.lines.proofs.Decoded.{decoded_more, decoded_all, drop_after}
+use Rattle.lines.proofs.Decoded.{pair_at, decoded_more, drop_after}
 use Rattle.lines.proofs.hexadecimal.decode.Goals as goal
-use Rattle.std.proofs.lemmas.List.{take_more_set, append_assoc, append-nil, drop-set-lt, take-append-drop}
+use Rattle.std.proofs.lemmas.List.{take_more_set, append_assoc, drop-set-lt}
 use Rattle.std.proofs.Common.{rules}
 
-pub loop-i-preserved : goal.loop-i-preserved
-loop-i-preserved c = search (rules, decoded_more, take_more_set, append_assoc, drop-set-lt, drop_after)
+pub byte-requires : goal.byte-requires
+byte-requires c = search (rules, pair_at)
 
-pub returns : goal.returns
-returns c = search (rules, decoded_all, append-nil, take-append-drop)
+pub loop-place-preserved : goal.loop-place-preserved
+loop-place-preserved c = search (rules, pair_at, decoded_more, take_more_set, append_assoc, drop-set-lt, drop_after)
