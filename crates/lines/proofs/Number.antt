@@ -1,7 +1,7 @@
 -- Facts on the numbers that digits write.
 use Rattle.std.proofs.Common.{◌≡◌, ℕ, ◌+◌, ◌-◌, ◌*◌, ◌<◌, ◌≤◌, List, [], ◌∷◌, length, get_or, drop, arith}
 use Rattle.lines.specs.Decimal.{number_after}
-use Rattle.std.proofs.lemmas.List.{at_drop_more, at_drop_all}
+use Rattle.std.proofs.lemmas.List.{at_drop_more}
 
 -- One digit on.
 pub number_more : (front : ℕ) (text : List ℕ) (i : ℕ) → i < length text
@@ -17,7 +17,3 @@ number_grows front (digit ∷ rest) = omega (arith, number_grows (front * 10 + (
 pub number_ge : (front : ℕ) (text : List ℕ) (i : ℕ) → i < length text
     → front * 10 + (get_or text i 0 - 48) ≤ number_after front (drop i text)
 number_ge front text i h = rw (number_more front text i h) (number_grows (front * 10 + (get_or text i 0 - 48)) (drop (i + 1) text))
-
--- At the end it is the number so far.
-pub number_all : (front : ℕ) (text : List ℕ) (i : ℕ) → length text ≤ i → number_after front (drop i text) ≡ front
-number_all front text i h = at_drop_all (number_after front) text i h

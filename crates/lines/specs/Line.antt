@@ -1,10 +1,11 @@
 -- What a line buffer means.
-use Rattle.std.specs.Prelude.{ℕ, cond, List, [], ◌∷◌, ◌++◌, length, take, Some, None, Option, nat_le, nat_lt}
+use Rattle.std.specs.Prelude.{ℕ, cond, List, [], ◌∷◌, ◌++◌, length, Some, None, Option, nat_lt}
+use Rattle.std.specs.Option.{option_map}
 use Rattle.lines.specs.declared.line.LineBuffer.{LineBuffer}
 
 -- The bytes of the line that a buffer has seen, and None of a line that was too long.
 abbrev pub seen : LineBuffer → Option (List ℕ)
-seen buffer = cond (nat_le buffer.len 400) (Some (take buffer.len buffer.bytes)) None
+seen buffer = option_map (λ bytes. bytes.items) buffer.bytes
 
 -- A line with one byte more: one past the 400th makes it too long, and so it stays.
 abbrev pub grown : Option (List ℕ) → ℕ → Option (List ℕ)

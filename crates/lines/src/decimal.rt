@@ -13,14 +13,8 @@ pub fn parse(text: &[u8]) -> Option<u32>
     }
     let mut value = 0u32;
     for byte in text {
-        if !byte.is_ascii_digit() {
-            return None;
-        }
-        let longer = value as u64 * 10 + (*byte - b'0') as u64;
-        if longer > u32::MAX as u64 {
-            return None;
-        }
-        value = longer as u32;
+        let digit = char::from(*byte).to_digit(10)?;
+        value = value.checked_mul(10)?.checked_add(digit)?;
     }
     Some(value)
 }

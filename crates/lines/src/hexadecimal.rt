@@ -36,16 +36,11 @@ impl fmt::Display for HexFault {
 impl Error for HexFault {}
 
 /// What a digit is worth, in either case.
-fn digit(byte: u8) -> Option<u8>
+fn digit(byte: u8) -> Option<u32>
     ensures value { result ≡ worth byte }
     ensures small { IfSome result (λ d. d < 16) }
 {
-    match byte {
-        b'0'..=b'9' => Some(byte - b'0'),
-        b'a'..=b'f' => Some(byte - b'a' + 10),
-        b'A'..=b'F' => Some(byte - b'A' + 10),
-        _ => None,
-    }
+    char::from(byte).to_digit(16)
 }
 
 /// The byte that two digits write.
@@ -53,7 +48,7 @@ fn byte(high: u8, low: u8) -> u8
     requires { (Digit high) × (Digit low) }
     ensures { result ≡ byte_of high low }
 {
-    16 * digit(high).unwrap() + digit(low).unwrap()
+    (16 * digit(high).unwrap() + digit(low).unwrap()) as u8
 }
 
 /// The offset of the first byte that is no digit.

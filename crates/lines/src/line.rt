@@ -4,16 +4,16 @@ ghost use Rattle.lines.specs.Line.{seen, grown};
 ghost use Rattle.std.specs.Option.{option_map};
 ghost use Rattle.std.specs.Prelude.{◌≡◌, [], Some};
 
+use arrayvec::ArrayVec;
+
 /// The most bytes that a line may have.
 pub const LIMIT: usize = 400;
 
 /// One line, as far as it was read.
 #[derive(Drop)]
 pub struct LineBuffer {
-    // The line's first bytes; past `len` they mean nothing.
-    bytes: [u8; LIMIT],
-    // How many bytes the line has, where `LIMIT + 1` stands for any more than `LIMIT`.
-    len: usize,
+    // The line's bytes; none where they are more than `LIMIT`.
+    bytes: Option<ArrayVec<u8, LIMIT>>,
 }
 
 impl LineBuffer {
@@ -22,8 +22,7 @@ impl LineBuffer {
         ensures { seen result ≡ Some [] }
     {
         LineBuffer {
-            bytes: [0; LIMIT],
-            len: 0,
+            bytes: Some(ArrayVec::new()),
         }
     }
 
@@ -31,11 +30,10 @@ impl LineBuffer {
     pub fn push(&mut self, byte: u8)
         ensures { seen self.new ≡ grown (seen self.old) byte }
     {
-        if self.len < LIMIT {
-            self.bytes[self.len] = byte;
-            self.len += 1;
-        } else {
-            self.len = LIMIT + 1;
+        if let Some(bytes) = &mut self.bytes {
+            if bytes.try_push(byte).is_err() {
+                self.bytes = None;
+            }
         }
     }
 
@@ -43,17 +41,13 @@ impl LineBuffer {
     pub fn line(&self) -> Option<&[u8]>
         ensures { option_map (λ x. x.now) result ≡ seen self.now }
     {
-        if self.len <= LIMIT {
-            Some(&self.bytes[0..self.len])
-        } else {
-            None
-        }
+        self.bytes.as_ref().map(|bytes| bytes.as_slice())
     }
 
     /// Makes it ready for the next line.
     pub fn clear(&mut self)
         ensures { seen self.new ≡ Some [] }
     {
-        self.len = 0;
+        *self = LineBuffer::new();
     }
 }

@@ -1,12 +1,12 @@
-use Rattle.lines.proofs.Number.{number_more, number_ge, number_all}
+use Rattle.lines.proofs.Number.{number_more, number_ge}
 use Rattle.lines.proofs.decimal.parse.Goals as goal
 use Rattle.std.proofs.Common.{rules}
 
-pub returns-then-longer : goal.returns-then-longer
-returns-then-longer c = search (rules, number_ge)
+pub returns-in_err-checked_mul : goal.returns-in_err-checked_mul
+returns-in_err-checked_mul c = search (rules, number_ge)
+
+pub returns-in_err-value : goal.returns-in_err-value
+returns-in_err-value c = search (rules, number_ge)
 
 pub loop-byte-preserved : goal.loop-byte-preserved
 loop-byte-preserved c = search (rules, number_more)
-
-pub returns : goal.returns
-returns c = search (rules, number_all)
