@@ -7,6 +7,7 @@ ghost use Rattle.std.specs.Prelude.{◌≡◌};
 
 use crate::metered::{Metered, Started};
 use indication::fault::Fault;
+use indication::header::Kind;
 use inquiry::{ahead, amount};
 use units::unit::Bounded;
 
@@ -19,7 +20,7 @@ impl<U: Bounded> Charging<U> {
         ensures same { self.new.unit ≡ self.old.unit }
         ensures received { Received (U.Unit.meaning self.old.unit) self.old.call AddOn bytes.now result self.new.call }
     {
-        self.call.receive_add_on(&self.unit, bytes)
+        self.call.receive(&self.unit, Kind::AddOn, bytes)
     }
 
     /// What a network is owed; none where the call does not know it.

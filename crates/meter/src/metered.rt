@@ -7,6 +7,7 @@ ghost use Rattle.std.specs.Prelude.{◌≡◌};
 
 use crate::closed::Closed;
 use indication::fault::Fault;
+use indication::header::Kind;
 use record::call::Call;
 use std::marker::PhantomData;
 use units::unit::Bounded;
@@ -52,7 +53,7 @@ impl<S: Open, U: Bounded> Metered<S, U> {
         ensures same { self.new.unit ≡ self.old.unit }
         ensures received { Received (U.Unit.meaning self.old.unit) self.old.call Tariff bytes.now result self.new.call }
     {
-        self.call.receive_tariff(&self.unit, bytes)
+        self.call.receive(&self.unit, Kind::Tariff, bytes)
     }
 
     /// Lets seconds pass.
