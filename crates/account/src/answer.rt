@@ -1,3 +1,6 @@
+ghost use Rattle.account.specs.Outcomes.{answer_ahead, answer_for};
+ghost use Rattle.std.specs.Prelude.{◌≡◌};
+
 use indication::fault::Fault;
 use record::statement::StatementLine;
 
@@ -15,4 +18,22 @@ pub enum Answer {
     Total(u64),
     /// a line of the statement; none past the last
     Line(Option<StatementLine>),
+}
+
+/// What an indication or an advance is answered.
+impl From<Result<(), Fault>> for Answer {
+    ghost from_gives = { λ outcome answer. answer ≡ answer_for outcome };
+
+    fn from(outcome: Result<(), Fault>) -> Answer {
+        outcome.map_or_else(Answer::Refused, |()| Answer::Accepted)
+    }
+}
+
+/// What a look-ahead is answered.
+impl From<Result<Option<u64>, Fault>> for Answer {
+    ghost from_gives = { λ outcome answer. answer ≡ answer_ahead outcome };
+
+    fn from(outcome: Result<Option<u64>, Fault>) -> Answer {
+        outcome.map_or_else(Answer::Refused, Answer::Owed)
+    }
 }

@@ -20,6 +20,7 @@ use Rattle.account.specs.declared.answer.Answer.TheVariants.{NotAllowed, Refused
 use Rattle.account.specs.Requests.{Asked, Request, understood, tariff, add_on, advance, start, release, amount_owed, look_ahead, total, line}
 use Rattle.account.specs.Journals.{Past, phase_of}
 use Rattle.account.specs.Answers.{is_allowed, is_closed, is_accepted, refusal, time_refusal, later, past, answer, reply, reply_unless}
+use Rattle.account.specs.Outcomes.{answer_for, answer_ahead}
 use Rattle.account.specs.Records.{record_after, record_of}
 use Rattle.hearing.specs.Hearing.{Shows, bringing}
 use Rattle.hearing.proofs.Heard.{refusals_heard, said_admitted}
@@ -28,7 +29,7 @@ use Rattle.standing.proofs.Standing.{rules_keep_the_record, sums_fit, record_sho
 use Rattle.standing.proofs.Pasts.{kept}
 use Rattle.told.proofs.Told.{owed_told, total_told, line_told}
 use Rattle.meter.specs.declared.meter.Meter.{Meter}
-use Rattle.meter.specs.Meters.{heard, call_of, unit_of, state_of, answer_for, answer_ahead, Performs}
+use Rattle.meter.specs.Meters.{heard, call_of, unit_of, state_of, Performs}
 use Rattle.meter.proofs.Accounts.{accounted}
 
 -- what is read for a unit is admitted, request by request

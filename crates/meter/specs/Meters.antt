@@ -7,7 +7,6 @@ use Rattle.record.specs.declared.call.Call.{Call}
 use Rattle.inquiry.specs.Inquiries.{owed_in}
 use Rattle.indication.specs.declared.fault.Fault.{Fault}
 use Rattle.account.specs.declared.answer.Answer.{Answer}
-use Rattle.account.specs.declared.answer.Answer.TheVariants.{Accepted, Owed, Refused}
 use Rattle.account.specs.Requests.{Asked, Request, understood, tariff, add_on, advance, start, release, amount_owed, look_ahead, total, line}
 use Rattle.account.specs.Answers.{past, answers, owed_to}
 use Rattle.account.specs.Records.{record_after}
@@ -78,16 +77,6 @@ pub record CameBy {U : Type 0} (m : Meaning) (opening : ℕ) (h : List Asked) (g
   pub accounted : Accounted m opening h given (call_of meter)
   -- its type is that of its phase
   pub phased : state_of meter ≡ (call_of meter).phase
-
--- the answer to an indication or an advance
-abbrev pub answer_for : {X : Type 0} → Result X Fault → Answer
-answer_for (Ok x) = Accepted
-answer_for (Err f) = Refused f
-
--- the answer to a look-ahead
-abbrev pub answer_ahead : Result (Option ℕ) Fault → Answer
-answer_ahead (Ok owed) = Owed owed
-answer_ahead (Err f) = Refused f
 
 -- A request is performed: whatever requests and answers the meter has come by, it has come by one more of each, and its
 -- unit is the same.

@@ -1,17 +1,15 @@
+//! A call that was released.
+
 ghost use Rattle.inquiry.specs.Inquiries.{line_in, total_of};
 ghost use Rattle.std.specs.Prelude.{◌≡◌};
 
+use crate::metered::{Metered, Released};
 use inquiry::statement;
-use record::call::Call;
 use record::statement::StatementLine;
 use units::unit::Bounded;
 
 /// A call that was released.
-#[derive(Drop)]
-pub struct Closed<U> {
-    pub(crate) unit: U,
-    pub(crate) call: Call,
-}
+pub type Closed<U> = Metered<Released, U>;
 
 impl<U: Bounded> Closed<U> {
     /// What all networks are owed together.

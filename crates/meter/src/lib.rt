@@ -5,6 +5,7 @@
 pub mod charging;
 pub mod closed;
 pub mod meter;
+pub mod metered;
 pub mod request;
 pub mod run;
 pub mod set_up;

@@ -1,5 +1,5 @@
 ghost use Rattle.std.specs.Prelude.{◌≡◌, ℕ, ◌%◌, []};
-ghost use Rattle.meter.specs.Meters.{CameBy, Performs, answer_ahead, answer_for, asked, call_of, unit_of};
+ghost use Rattle.meter.specs.Meters.{CameBy, Performs, asked, call_of, unit_of};
 ghost use Rattle.meter.specs.declared.meter.Meter.TheVariants.{Charging as while_charging, Closed as once_closed, SetUp as in_set_up};
 ghost use Rattle.record.specs.Calls.{opened};
 
@@ -8,7 +8,6 @@ use crate::closed::Closed;
 use crate::request::Request;
 use crate::set_up::SetUp;
 use account::answer::Answer;
-use indication::fault::Fault;
 use record::call::Call;
 use units::unit::Bounded;
 
@@ -47,26 +46,6 @@ fn unasked<U: Bounded>(call: SetUp<U>) -> Meter<U>
     Meter::SetUp(call)
 }
 
-// The answer to an indication or an advance.
-fn answer_for(outcome: Result<(), Fault>) -> Answer
-    ensures { result ≡ answer_for outcome }
-{
-    match outcome {
-        Ok(()) => Answer::Accepted,
-        Err(fault) => Answer::Refused(fault),
-    }
-}
-
-// The answer to a look-ahead.
-fn answer_ahead(outcome: Result<Option<u64>, Fault>) -> Answer
-    ensures { result ≡ answer_ahead outcome }
-{
-    match outcome {
-        Ok(owed) => Answer::Owed(owed),
-        Err(fault) => Answer::Refused(fault),
-    }
-}
-
 /// Performs a request. One that the state does not allow is answered so, and changes nothing.
 pub fn perform<U: Bounded + Drop>(meter: Meter<U>, request: Request) -> (Meter<U>, Answer)
     ensures { Performs U.Unit.meaning meter (asked request.entry) result.0 result.1 }
@@ -84,11 +63,11 @@ fn perform_in_set_up<U: Bounded + Drop>(call: SetUp<U>, request: Request) -> (Me
     let mut call = call;
     match request {
         Request::Tariff(bytes) => {
-            let answer = answer_for(call.receive_tariff(bytes));
+            let answer = Answer::from(call.receive_tariff(bytes));
             (Meter::SetUp(call), answer)
         }
         Request::Advance(seconds) => {
-            let answer = answer_for(call.advance(seconds));
+            let answer = Answer::from(call.advance(seconds));
             (Meter::SetUp(call), answer)
         }
         Request::Start => (Meter::Charging(call.start()), Answer::Accepted),
@@ -103,15 +82,15 @@ fn perform_charging<U: Bounded + Drop>(call: Charging<U>, request: Request) -> (
     let mut call = call;
     match request {
         Request::Tariff(bytes) => {
-            let answer = answer_for(call.receive_tariff(bytes));
+            let answer = Answer::from(call.receive_tariff(bytes));
             (Meter::Charging(call), answer)
         }
         Request::AddOn(bytes) => {
-            let answer = answer_for(call.receive_add_on(bytes));
+            let answer = Answer::from(call.receive_add_on(bytes));
             (Meter::Charging(call), answer)
         }
         Request::Advance(seconds) => {
-            let answer = answer_for(call.advance(seconds));
+            let answer = Answer::from(call.advance(seconds));
             (Meter::Charging(call), answer)
         }
         Request::AmountOwed(network) => {
@@ -119,7 +98,7 @@ fn perform_charging<U: Bounded + Drop>(call: Charging<U>, request: Request) -> (
             (Meter::Charging(call), answer)
         }
         Request::LookAhead(network, seconds) => {
-            let answer = answer_ahead(call.look_ahead(network, seconds));
+            let answer = Answer::from(call.look_ahead(network, seconds));
             (Meter::Charging(call), answer)
         }
         Request::Release => (Meter::Closed(call.release()), Answer::Accepted),

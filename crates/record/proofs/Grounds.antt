@@ -1,5 +1,5 @@
 -- The refusal that comes first, with the call's grounds beside those of reader and unit.
-use Rattle.std.proofs.Common.{◌≡◌, ℕ, ◌<◌, ◌≤◌, true, not, ◌&&◌, eqb, ◌⊎◌, List, Some, None, Option, Result, sym, refl, ap, inl, inr, ⊎_elim, arith, MatchResult}
+use Rattle.std.proofs.Common.{◌≡◌, ℕ, ◌<◌, ◌≤◌, not, ◌&&◌, eqb, ◌⊎◌, List, Some, None, Option, Result, sym, refl, ap, inl, inr, ⊎_elim, arith, MatchResult}
 use Rattle.std.specs.Option.{ok_or}
 use Rattle.std.proofs.lemmas.Bool.{and_from, and_parts, both_ways, cond_both, eq-eqb, eqb-true, leb-true, leb-false, not-true, not_from_false}
 use Rattle.indication.specs.declared.header.Kind.{Kind}
@@ -15,7 +15,7 @@ use Rattle.units.specs.Admission.{UnitGrounds}
 use Rattle.record.specs.declared.call.Call.{Call}
 use Rattle.record.specs.Calls.{is_seated, seat_of}
 use Rattle.record.specs.Refusals.{CallGrounds, IsStranger}
-use Rattle.record.specs.Seats.{add_on_seat, is_full, tariff_seat}
+use Rattle.record.specs.Seats.{is_full, seat_for, seat_with_room}
 use Rattle.record.proofs.Seated.{no_seat}
 
 two_kinds : Tariff ≡ AddOn → ⊥
@@ -88,69 +88,65 @@ Finds m call taken b r =
     MatchResult r (λ i. Groundless (CallGrounds m call taken b) × (call.accepted < 512) × (Some i ≡ seat_of (header_of b).network call.operators))
     (λ f. Foremost (CallGrounds m call taken b) f)
 
-module _ (m : Meaning) (call : Call) (b : List ℕ) where
-  module _ (ok : Groundless (UnitGrounds m Tariff b)) (room : call.accepted < 512) where
-    absent_refused : IsStranger call b → current_count b ≡ 0 → Foremost (CallGrounds m call Tariff b) NoCurrentTariff
-    absent_refused stranger absent = record {
-      grounded = (refl, stranger, absent);
-      first = grounded_all m call Tariff b (Precedes NoCurrentTariff) (λ g w. absurd (ok g w)) (λ full. absurd (omega arith))
-          (λ k _. absurd (two_kinds k))
-          (λ _ _ _. inr (refl, omega arith))
-          (λ _ _. inl (omega arith));
-    }
+module _ (m : Meaning) (call : Call) (taken : Kind) (b : List ℕ) (ok : Groundless (UnitGrounds m taken b)) (room : call.accepted < 512) where
+  -- the seat, where the network has one or may begin
+  by_seat :
+      (taken ≡ AddOn → IsStranger call b → ⊥) → (taken ≡ Tariff → IsStranger call b → current_count b ≡ 0 → ⊥)
+      → (NoSeat m call taken b → taken ≡ Tariff)
+      → (o : Option ℕ) → o ≡ seat_of (header_of b).network call.operators → Finds m call taken b (ok_or o TooManyNetworks)
+  by_seat early absent fifth None e = record {
+    grounded = (fifth (sym e), sym e);
+    first = grounded_all m call taken b (Precedes TooManyNetworks) (λ g w. absurd (ok g w)) (λ full. absurd (omega arith))
+        (λ k s. absurd (early k s))
+        (λ k s a. absurd (absent k s a))
+        (λ _ _. inr (refl, omega arith));
+  }
+  by_seat early absent fifth (Some i) e = (
+    grounded_all m call taken b (λ _. ⊥) ok (λ full. omega arith) early absent
+        (λ _ none. let z : ◌≡◌ {A = ℕ} 0 1 = cc in omega arith),
+    room,
+    e,
+  )
 
-    module _ (known : IsStranger call b → current_count b ≡ 0 → ⊥) where
-      by_seat : (o : Option ℕ) → o ≡ seat_of (header_of b).network call.operators → Finds m call Tariff b (ok_or o TooManyNetworks)
-      by_seat None e = record {
-        grounded = (refl, sym e);
-        first = grounded_all m call Tariff b (Precedes TooManyNetworks) (λ g w. absurd (ok g w)) (λ full. absurd (omega arith))
-            (λ k _. absurd (two_kinds k))
-            (λ _ s a. absurd (known s a))
-            (λ _ _. inr (refl, omega arith));
-      }
-      by_seat (Some i) e = (
-        grounded_all m call Tariff b (λ _. ⊥) ok (λ full. omega arith) (λ k _. two_kinds k) (λ _. known)
-            (λ _ none. let z : ◌≡◌ {A = ℕ} 0 1 = cc in omega arith),
-        room,
-        e,
-      )
-
-  pub finds_tariff_seat : Groundless (UnitGrounds m Tariff b) → Finds m call Tariff b (tariff_seat call (header_of b).network (current_count b))
-  finds_tariff_seat ok =
-      cond_both (is_full call) _ _ (Finds m call Tariff b) (λ e. full_refused m call Tariff b ok (leb-true _ _ e)) (λ free.
-      let room = leb-false _ _ free in
+module _ (m : Meaning) (call : Call) (b : List ℕ) (room : call.accepted < 512) where
+  found_with_room :
+      (taken : Kind) → Groundless (UnitGrounds m taken b)
+      → Finds m call taken b (seat_with_room call taken (header_of b).network (current_count b))
+  found_with_room Tariff ok =
       cond_both (eqb (current_count b) 0 && not (is_seated (header_of b).network call.operators)) _ _ (Finds m call Tariff b)
       (λ e.
       let p = and_parts (eqb (current_count b) 0) _ e in
-      absent_refused ok room (not-true _ p.1) (eqb-true _ _ p.0))
+      record {
+        grounded = (refl, not-true _ p.1, eqb-true _ _ p.0);
+        first = grounded_all m call Tariff b (Precedes NoCurrentTariff) (λ g w. absurd (ok g w)) (λ full. absurd (omega arith))
+            (λ k _. absurd (two_kinds k))
+            (λ _ _ _. inr (refl, omega arith))
+            (λ _ _. inl (omega arith));
+      })
       (λ e.
-      by_seat ok room (λ s a. both_ways _ e (and_from (eqb (current_count b) 0) _ (eq-eqb _ _ a) (not_from_false _ s)))
-      (seat_of (header_of b).network call.operators) refl))
-
-  module _ (ok : Groundless (UnitGrounds m AddOn b)) (room : call.accepted < 512) where
-    early_refused : IsStranger call b → Foremost (CallGrounds m call AddOn b) AddOnBeforeTariff
-    early_refused stranger = record {
-      grounded = (refl, stranger);
-      first = grounded_all m call AddOn b (Precedes AddOnBeforeTariff) (λ g w. absurd (ok g w)) (λ full. absurd (omega arith))
-          (λ _ _. inr (refl, omega arith))
-          (λ _ _ _. inl (omega arith))
-          (λ _ _. inl (omega arith));
-    }
-
-    seat_of_known :
-        is_seated (header_of b).network call.operators ≡ true → (o : Option ℕ) → o ≡ seat_of (header_of b).network call.operators
-        → Finds m call AddOn b (ok_or o AddOnBeforeTariff)
-    seat_of_known known None e = early_refused (no_seat (header_of b).network call.operators e)
-    seat_of_known known (Some i) e = (
-      grounded_all m call AddOn b (λ _. ⊥) ok (λ full. omega arith) (λ _ s. both_ways _ s known) (λ k _ _. two_kinds (sym k))
-          (λ k _. two_kinds (sym k)),
-      room,
-      e,
-    )
-
-  pub finds_add_on_seat : Groundless (UnitGrounds m AddOn b) → Finds m call AddOn b (add_on_seat call (header_of b).network)
-  finds_add_on_seat ok =
-      cond_both (is_full call) _ _ (Finds m call AddOn b) (λ e. full_refused m call AddOn b ok (leb-true _ _ e)) (λ free.
-      let room = leb-false _ _ free in
+      by_seat m call Tariff b ok room (λ k _. two_kinds k)
+      (λ _ s a. both_ways _ e (and_from (eqb (current_count b) 0) _ (eq-eqb _ _ a) (not_from_false _ s)))
+      (λ _. refl)
+      (seat_of (header_of b).network call.operators)
+      refl)
+  found_with_room AddOn ok =
       cond_both (is_seated (header_of b).network call.operators) _ _ (Finds m call AddOn b)
-      (λ known. seat_of_known ok room known (seat_of (header_of b).network call.operators) refl) (early_refused ok room))
+      (λ known.
+      by_seat m call AddOn b ok room (λ _ s. both_ways _ s known) (λ k _ _. two_kinds (sym k))
+      (λ none. absurd (both_ways _ (no_seat (header_of b).network call.operators (sym none)) known))
+      (seat_of (header_of b).network call.operators)
+      refl)
+      (λ stranger. record {
+        grounded = (refl, stranger);
+        first = grounded_all m call AddOn b (Precedes AddOnBeforeTariff) (λ g w. absurd (ok g w)) (λ full. absurd (omega arith))
+            (λ _ _. inr (refl, omega arith))
+            (λ _ _ _. inl (omega arith))
+            (λ _ _. inl (omega arith));
+      })
+
+pub finds_seat :
+    (m : Meaning) (call : Call) (taken : Kind) (b : List ℕ) → Groundless (UnitGrounds m taken b)
+    → Finds m call taken b (seat_for call taken (header_of b).network (current_count b))
+finds_seat m call taken b ok =
+    cond_both (is_full call) _ _ (Finds m call taken b) (λ e. full_refused m call taken b ok (leb-true _ _ e))
+    (λ free. found_with_room m call b (leb-false _ _ free) taken ok)

@@ -2,14 +2,16 @@
 use Rattle.std.specs.Prelude.{◌≡◌, ℕ, ◌+◌, ◌<◌, Bool, true, cond, not, ◌&&◌, List, Some, None, Err, Option, Result, MatchResult, ◌==◌, nat_le, slice_set}
 use Rattle.std.specs.Option.{ok_or}
 use Rattle.indication.specs.declared.header.Kind.{Kind}
+use Rattle.indication.specs.declared.header.Kind.TheVariants.{Tariff, AddOn}
 use Rattle.indication.specs.declared.fault.Fault.{Fault}
 use Rattle.indication.specs.declared.fault.Fault.TheVariants.{TooManyIndications, AddOnBeforeTariff, NoCurrentTariff, TooManyNetworks}
-use Rattle.indication.specs.Format.{decoded}
+use Rattle.indication.specs.Format.{Content, decoded}
 use Rattle.indication.specs.Rules.{Foremost, Groundless}
 use Rattle.units.specs.Meanings.{Meaning}
 use Rattle.record.specs.declared.call.Call.{Call}
 use Rattle.record.specs.declared.operator.Operator.{Operator}
 use Rattle.record.specs.Calls.{seat_of, is_seated}
+use Rattle.record.specs.Operators.{add_on_price, owing, received_by}
 use Rattle.record.specs.Refusals.{CallGrounds, received_as}
 
 -- a seat is free, or the network's
@@ -20,18 +22,22 @@ suits network (Some op) = op.network == network
 abbrev pub is_full : Call → Bool
 is_full call = nat_le 512 call.accepted
 
--- the seat that a tariff indication with so many current entries finds, or why it finds none
-abbrev pub tariff_seat : Call → ℕ → ℕ → Result ℕ Fault
-tariff_seat call network count =
-    cond (is_full call) (Err TooManyIndications)
-    (cond (count == 0 && not (is_seated network call.operators)) (Err NoCurrentTariff)
-    (ok_or (seat_of network call.operators) TooManyNetworks))
+-- the seat that an indication of a kind with so many current entries finds, or why it finds none
+abbrev pub seat_with_room : Call → Kind → ℕ → ℕ → Result ℕ Fault
+seat_with_room call Tariff network count =
+    cond (count == 0 && not (is_seated network call.operators)) (Err NoCurrentTariff)
+    (ok_or (seat_of network call.operators) TooManyNetworks)
+seat_with_room call AddOn network count =
+    cond (is_seated network call.operators) (ok_or (seat_of network call.operators) TooManyNetworks) (Err AddOnBeforeTariff)
 
--- the same of an add-on
-abbrev pub add_on_seat : Call → ℕ → Result ℕ Fault
-add_on_seat call network =
-    cond (is_full call) (Err TooManyIndications)
-    (cond (is_seated network call.operators) (ok_or (seat_of network call.operators) AddOnBeforeTariff) (Err AddOnBeforeTariff))
+abbrev pub seat_for : Call → Kind → ℕ → ℕ → Result ℕ Fault
+seat_for call kind network count =
+    cond (is_full call) (Err TooManyIndications) (seat_with_room call kind network count)
+
+-- what an accepted indication of a kind makes of its network's operator
+abbrev pub indicated : Kind → Meaning → Call → Content → Operator → Operator
+indicated Tariff m call c op = received_by m call.opening call.phase call.clock c op
+indicated AddOn m call c op = owing (add_on_price m c) op
 
 -- one more indication is accepted, and an operator is in a seat
 abbrev pub seated : ℕ → Operator → Call → Call

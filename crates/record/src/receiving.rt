@@ -1,8 +1,7 @@
 ghost use Rattle.indication.specs.Format.{content_of};
-ghost use Rattle.indication.specs.declared.header.Kind.TheVariants.{AddOn, Tariff};
 ghost use Rattle.record.specs.Operators.{add_on_price};
 ghost use Rattle.record.specs.Refusals.{Received};
-ghost use Rattle.record.specs.Seats.{Placed};
+ghost use Rattle.record.specs.Seats.{Placed, indicated};
 ghost use Rattle.std.specs.Prelude.{◌≡◌};
 
 use crate::call::Call;
@@ -23,44 +22,50 @@ fn add_on_price<U: Bounded>(unit: &U, indication: &Indication) -> u64
     }
 }
 
+impl Operator {
+    // The operator with an accepted indication of a kind.
+    fn indicated<U: Bounded>(
+        self,
+        unit: &U,
+        call: &Call,
+        kind: Kind,
+        indication: &Indication,
+    ) -> Operator
+        ensures { result ≡ indicated kind (U.Unit.meaning unit.now) call.now (content_of indication.now) self }
+    {
+        match kind {
+            Kind::Tariff => self.received(unit, call, indication),
+            Kind::AddOn => self.owing(add_on_price(unit, indication)),
+        }
+    }
+}
+
 impl Call {
-    /// Takes bytes for a tariff indication: accepts it for its network's operator, or refuses it and changes nothing.
-    pub fn receive_tariff<U: Bounded>(&mut self, unit: &U, bytes: &[u8]) -> Result<(), Fault>
-        ensures { Received (U.Unit.meaning unit.now) self.old Tariff bytes.now result self.new }
+    /// Takes bytes for an indication of a kind: accepts it for its network's operator, or refuses it and changes nothing.
+    pub fn receive<U: Bounded>(&mut self, unit: &U, kind: Kind, bytes: &[u8]) -> Result<(), Fault>
+        ensures { Received (U.Unit.meaning unit.now) self.old kind bytes.now result self.new }
     {
-        let (seat, with_tariff) = self.after_tariff(unit, bytes)?;
-        self.accept(seat, with_tariff);
+        let (seat, operator) = self.placed(unit, kind, bytes)?;
+        self.accept(seat, operator);
         Ok(())
     }
 
-    /// Takes bytes for an add-on: adds it to what its network's operator is owed, or refuses it and changes nothing.
-    pub fn receive_add_on<U: Bounded>(&mut self, unit: &U, bytes: &[u8]) -> Result<(), Fault>
-        ensures { Received (U.Unit.meaning unit.now) self.old AddOn bytes.now result self.new }
+    // The seat of an indication's network, and the operator that is to be in it.
+    fn placed<U: Bounded>(
+        &self,
+        unit: &U,
+        kind: Kind,
+        bytes: &[u8],
+    ) -> Result<(usize, Operator), Fault>
+        ensures { Placed (U.Unit.meaning unit.now) self.now kind bytes.now result }
     {
-        let (seat, with_add_on) = self.after_add_on(unit, bytes)?;
-        self.accept(seat, with_add_on);
-        Ok(())
-    }
-
-    // The seat of a tariff indication's network, and the operator that is to be in it.
-    fn after_tariff<U: Bounded>(&self, unit: &U, bytes: &[u8]) -> Result<(usize, Operator), Fault>
-        ensures { Placed (U.Unit.meaning unit.now) self.now Tariff bytes.now result }
-    {
-        let reader = read_for(bytes, Kind::Tariff, unit)?;
+        let reader = read_for(bytes, kind, unit)?;
         let network = reader.header().network;
-        let seat = self.tariff_seat(network, reader.current_count())?;
+        let seat = self.seat_for(kind, network, reader.current_count())?;
         let operator = self.occupant(seat, network);
-        Ok((seat, operator.received(unit, self, &reader.indication())))
-    }
-
-    // The seat of an add-on's network, and the operator that is to be in it.
-    fn after_add_on<U: Bounded>(&self, unit: &U, bytes: &[u8]) -> Result<(usize, Operator), Fault>
-        ensures { Placed (U.Unit.meaning unit.now) self.now AddOn bytes.now result }
-    {
-        let reader = read_for(bytes, Kind::AddOn, unit)?;
-        let network = reader.header().network;
-        let seat = self.add_on_seat(network)?;
-        let amount = add_on_price(unit, &reader.indication());
-        Ok((seat, self.occupant(seat, network).owing(amount)))
+        Ok((
+            seat,
+            operator.indicated(unit, self, kind, &reader.indication()),
+        ))
     }
 }

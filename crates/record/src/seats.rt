@@ -1,12 +1,13 @@
 ghost use Rattle.std.specs.Prelude.{◌≡◌, ◌<◌, IfSome, IfOk, None, slice_index_or};
 ghost use Rattle.record.specs.Calls.{is_seated, seat_of};
 ghost use Rattle.record.specs.Operators.{newcomer};
-ghost use Rattle.record.specs.Seats.{add_on_seat, is_full, seated, suits, tariff_seat};
+ghost use Rattle.record.specs.Seats.{is_full, seat_for, seated, suits};
 ghost use Rattle.std.specs.Option.{unwrap_or};
 
 use crate::call::Call;
 use crate::operator::Operator;
 use indication::fault::Fault;
+use indication::header::Kind;
 
 // Whether a seat is free, or the network's.
 fn suits(seat: Option<Operator>, network: u64) -> bool
@@ -48,32 +49,22 @@ impl Call {
         self.accepted >= 512
     }
 
-    // The seat that a tariff indication with `count` current entries finds.
-    pub(crate) fn tariff_seat(&self, network: u64, count: u8) -> Result<usize, Fault>
-        ensures is { result ≡ tariff_seat self.now network count }
-        ensures below { IfOk result (λ i. i < 4) }
-    {
-        if self.is_full() {
-            return Err(Fault::TooManyIndications);
-        }
-        if count == 0 && !is_seated(&self.operators, network) {
-            return Err(Fault::NoCurrentTariff);
-        }
-        seat_of(&self.operators, network).ok_or(Fault::TooManyNetworks)
-    }
-
-    // The seat that an add-on finds.
-    pub(crate) fn add_on_seat(&self, network: u64) -> Result<usize, Fault>
-        ensures is { result ≡ add_on_seat self.now network }
+    // The seat that an indication of a kind with `count` current entries finds.
+    pub(crate) fn seat_for(&self, kind: Kind, network: u64, count: u8) -> Result<usize, Fault>
+        ensures is { result ≡ seat_for self.now kind network count }
         ensures below { IfOk result (λ i. i < 4) }
     {
         if self.is_full() {
             return Err(Fault::TooManyIndications);
         }
         if !is_seated(&self.operators, network) {
-            return Err(Fault::AddOnBeforeTariff);
+            match kind {
+                Kind::AddOn => return Err(Fault::AddOnBeforeTariff),
+                Kind::Tariff if count == 0 => return Err(Fault::NoCurrentTariff),
+                Kind::Tariff => {}
+            }
         }
-        seat_of(&self.operators, network).ok_or(Fault::AddOnBeforeTariff)
+        seat_of(&self.operators, network).ok_or(Fault::TooManyNetworks)
     }
 
     // The operator in a seat, and a newcomer in a free one.

@@ -8,21 +8,21 @@ use Rattle.meter.proofs.meter.perform_charging.Goals as goal
 pub returns-in-Tariff : goal.returns-in-Tariff
 returns-in-Tariff g c =
     let step = c.receive_tariff in
-    rw (c.in-Tariff.is, c.answer_for-answer.ensures)
+    rw (c.in-Tariff.is, c.from-answer.ensures)
     (indication_performs g.U.Unit.meaning g.met.U.Unit.sound (Charging c.args.call) (Charging step.new.self) step.ensures.same
     kind.Tariff c.in-Tariff.bytes.now step.result refl refl step.ensures.received)
 
 pub returns-in-AddOn : goal.returns-in-AddOn
 returns-in-AddOn g c =
     let step = c.receive_add_on in
-    rw (c.in-AddOn.is, c.answer_for-answer-in-AddOn.ensures)
+    rw (c.in-AddOn.is, c.from-answer-in-AddOn.ensures)
     (indication_performs g.U.Unit.meaning g.met.U.Unit.sound (Charging c.args.call) (Charging step.new.self) step.ensures.same
     kind.AddOn c.in-AddOn.bytes.now step.result refl refl step.ensures.received)
 
 pub returns-in-Advance : goal.returns-in-Advance
 returns-in-Advance g c =
     let step = c.advance in
-    rw (c.in-Advance.is, c.answer_for-answer-in-Advance.ensures)
+    rw (c.in-Advance.is, c.from-answer-in-Advance.ensures)
     (advance_performs g.U.Unit.meaning g.met.U.Unit.sound (Charging c.args.call) (Charging step.new.self) step.ensures.same
     c.in-Advance.seconds step.result refl refl step.ensures.passed)
 
@@ -33,7 +33,7 @@ returns-in-AmountOwed g c =
 
 pub returns-in-LookAhead : goal.returns-in-LookAhead
 returns-in-LookAhead g c =
-    rw (c.in-LookAhead.is, c.answer_ahead-answer.ensures, c.look_ahead.ensures.same)
+    rw (c.in-LookAhead.is, c.from-answer-in-LookAhead.ensures, c.look_ahead.ensures.same)
     (look_performs g.U.Unit.meaning g.met.U.Unit.sound (Charging c.args.call) c.in-LookAhead.network c.in-LookAhead.seconds
     c.look_ahead.result refl c.look_ahead.ensures.told)
 

@@ -8,14 +8,14 @@ use Rattle.meter.proofs.meter.perform_in_set_up.Goals as goal
 pub returns-in-Tariff : goal.returns-in-Tariff
 returns-in-Tariff g c =
     let step = c.receive_tariff in
-    rw (c.in-Tariff.is, c.answer_for-answer.ensures)
+    rw (c.in-Tariff.is, c.from-answer.ensures)
     (indication_performs g.U.Unit.meaning g.met.U.Unit.sound (SetUp c.args.call) (SetUp step.new.self) step.ensures.same
     kind.Tariff c.in-Tariff.bytes.now step.result refl refl step.ensures.received)
 
 pub returns-in-Advance : goal.returns-in-Advance
 returns-in-Advance g c =
     let step = c.advance in
-    rw (c.in-Advance.is, c.answer_for-answer-in-Advance.ensures)
+    rw (c.in-Advance.is, c.from-answer-in-Advance.ensures)
     (advance_performs g.U.Unit.meaning g.met.U.Unit.sound (SetUp c.args.call) (SetUp step.new.self) step.ensures.same
     c.in-Advance.seconds step.result refl refl step.ensures.passed)
 

@@ -1,6 +1,6 @@
 use Rattle.std.proofs.Common.{refl}
 use Rattle.std.proofs.lemmas.Result.{err_from_is_err_and}
-use Rattle.record.proofs.call.Call.receive_add_on.Goals as goal
+use Rattle.record.proofs.call.Call.receive.Goals as goal
 
 pub returns-in_err-seat : goal.returns-in_err-seat
 returns-in_err-seat g c =
