@@ -38,9 +38,6 @@ usage_code_usage_of (suc (suc (suc zero))) h = refl
 usage_code_usage_of (suc (suc (suc (suc zero)))) h = refl
 usage_code_usage_of (suc (suc (suc (suc (suc n))))) h = absurd (omega arith)
 
-three : (h c t p q r w : List ℕ) → h ≡ p → c ≡ q → t ≡ r → w ≡ p ++ (q ++ r) → h ++ (c ++ t) ≡ w
-three h c t p q r w e f g k = cc
-
 module _ (b : List ℕ) (bytes : (i : ℕ) → byte b i < 256) where
   part_bytes : (at n : ℕ) → Bytes (part b at n)
   part_bytes at zero = tt
@@ -113,5 +110,9 @@ module _ (b : List ℕ) (bytes : (i : ℕ) → byte b i < 256) where
         let n : ℕ = entry_count b in
         let all : length b ≡ 24 + (6 * n + 3 * n) = omega (arith, formed.long taken b ok) in
         let whole : b ≡ part b 0 (24 + (6 * n + 3 * n)) = sym (part_all b) ∙ ap (part b 0) all in
-        three (header_bytes (length (decoded b).current) (length (decoded b).next) (header_of b)) _ _ _ _ _ b header_is charges_are terms_are
-        (whole ∙ part_append b 0 24 (6 * n + 3 * n) ∙ ap (λ rest. part b 0 24 ++ rest) (part_append b 24 (6 * n) (3 * n)))
+        let first = header_is in
+        let charges = charges_are in
+        let terms = terms_are in
+        let cut = part_append b 0 24 (6 * n + 3 * n) in
+        let rest = part_append b 24 (6 * n) (3 * n) in
+        cc

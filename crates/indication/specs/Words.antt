@@ -45,18 +45,20 @@ layer_word Unit = codes "unit"
 layer_word Writer = codes "writer"
 layer_word Meter = codes "meter"
 
--- a letter that is shown as it is
+-- a letter that is shown as it is, a space to a tilde
 abbrev pub is_printable : ℕ → Bool
 is_printable letter = nat_le 32 letter && nat_le letter 126
 
+-- three letters as they are, in quotation marks
 abbrev pub letters_text : ℕ → ℕ → ℕ → List ℕ
 letters_text a b c = codes "\"" ++ (encode a ++ (encode b ++ (encode c ++ codes "\"")))
 
+-- three letters by their codes, in brackets
 abbrev pub numbers_text : ℕ → ℕ → ℕ → List ℕ
 numbers_text a b c =
     codes "(" ++ (decimal a ++ (codes ", " ++ (decimal b ++ (codes ", " ++ (decimal c ++ codes ")")))))
 
--- the kind of a mark, and its letters where they are printable
+-- the kind of a mark, and its letters, as they are where all are printable
 abbrev pub mark_text : Mark → List ℕ
 mark_text m =
     let a = slice_index m.letters 0 in
