@@ -19,11 +19,11 @@ pub(crate) fn encoding_of(indication: &Indication) -> Encoding
     let current = indication.current.as_slice();
     let next = indication.next.as_slice();
     let mut encoding = header_encoding(indication.header, current.len() as u8, next.len() as u8);
-    for charged in current.iter().chain(next) {
-        put(&mut encoding, &charge_bytes(*charged));
+    for entry in current.iter().chain(next) {
+        put(&mut encoding, &charge_bytes(*entry));
     }
-    for timed in current.iter().chain(next) {
-        put(&mut encoding, &term_bytes(*timed));
+    for entry in current.iter().chain(next) {
+        put(&mut encoding, &term_bytes(*entry));
     }
     encoding
 }

@@ -17,6 +17,6 @@ pub fn write(indication: &Indication, out: &mut [u8]) -> Result<usize, Fault>
     if out.len() < bytes.len() {
         return Err(Fault::NoRoom(bytes.len()));
     }
-    out[0..bytes.len()].copy_from_slice(bytes);
+    out[..bytes.len()].copy_from_slice(bytes);
     Ok(bytes.len())
 }

@@ -4,12 +4,12 @@ use Rattle.indication.specs.Fits.{ChargeFits, TermFits}
 use Rattle.indication.specs.Format.{charge_bytes, term_bytes}
 use Rattle.writer.proofs.encoding.encoding_of.Given as goal
 
-abbrev pub invariant-loop-charged : goal.invariant-loop-charged
-invariant-loop-charged l =
+abbrev pub invariant-loop-entry : goal.invariant-loop-entry
+invariant-loop-entry l =
     (l.encoding.items ≡ l.initial.encoding.items ++ flat_map charge_bytes (map (λ e. e.now) l.yielded))
     × AllByRecursion ChargeFits (map (λ e. e.now) l.yielded)
 
-abbrev pub invariant-loop-timed : goal.invariant-loop-timed
-invariant-loop-timed l =
+abbrev pub invariant-loop-entry-2 : goal.invariant-loop-entry-2
+invariant-loop-entry-2 l =
     (l.encoding.items ≡ l.initial.encoding.items ++ flat_map term_bytes (map (λ e. e.now) l.yielded))
     × AllByRecursion TermFits (map (λ e. e.now) l.yielded)
