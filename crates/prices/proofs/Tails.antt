@@ -1,7 +1,10 @@
 -- Primes below 100 are not counted past 100.
-use Rattle.std.proofs.Common.{◌≡◌, ℕ, zero, suc, ◌+◌, ◌-◌, ◌≤◌, min, Bool, false, cond, sym, ap, ◌∙◌, ⊎_elim, add-zero, add-one, arith}
+use Rattle.std.proofs.Common.{◌≡◌, ℕ, zero, suc, ◌+◌, ◌-◌, ◌≤◌, min, Bool, false, cond, count_by, refl, sym, ap, ◌∙◌, ⊎_elim, add-zero, arith}
 use Rattle.std.proofs.lemmas.Bool.{cases_lt}
 use Rattle.std.proofs.lemmas.Bool.Decides.{nat_tests}
+use Rattle.std.proofs.lemmas.List.{map-id}
+use Rattle.std.proofs.lemmas.List.FromFn.{sum_by-map-range_with_len_more}
+use Rattle.std.specs.List.{range_with_len}
 use Rattle.units.specs.Meanings.{counted}
 use Rattle.prices.specs.Primes.{is_prime}
 
@@ -15,11 +18,14 @@ counted_tail a s (suc k) h =
     let far : 100 ≤ a + (s + k) = omega arith in
     rw more (rw (past (a + (s + k)) far, add-zero (counted is_prime a (s + k))) (counted_tail a s k h))
 
-pub counted_step : (a k n t : ℕ) → n ≡ counted is_prime a k → t ≡ cond (is_prime (a + k)) 1 0 → n + t ≡ counted is_prime a (k + 1)
-counted_step a k n t e f = rw (add-one k, e, f)
-
-pub one_at_most : (b : Bool) (t : ℕ) → t ≡ cond b 1 0 → t ≤ 1
-one_at_most b t e = grind (arith, nat_tests)
+-- the list of the numbers, counted
+pub counted_range : (p : ℕ → Bool) (a n : ℕ) → count_by p (range_with_len a n) ≡ counted p a n
+counted_range p a zero = refl
+counted_range p a (suc n) =
+    let one : suc n ≡ n + 1 = omega arith in
+    ap (λ k. count_by p (range_with_len a k)) one
+    ∙ simp map-id at (sum_by-map-range_with_len_more (λ x. cond (p x) 1 0) (λ x. x) a n (a + n) refl)
+    ∙ ap (λ k. k + cond (p (a + n)) 1 0) (counted_range p a n)
 
 -- so the numbers up to 100 are enough
 pub counted_below : (a n s : ℕ) → s ≡ min n (100 - a) → counted is_prime a s ≡ counted is_prime a n

@@ -2,7 +2,7 @@
 
 ghost use Rattle.prices.specs.Primes.{is_prime, primes};
 ghost use Rattle.units.specs.Meanings.{counted};
-ghost use Rattle.std.specs.Prelude.{◌≡◌, if◌then◌else◌};
+ghost use Rattle.std.specs.Prelude.{◌≡◌};
 ghost use Rattle.std.proofs.Common.{arith};
 ghost use Rattle.std.proofs.lemmas.Bool.{and_left};
 ghost use Rattle.std.proofs.lemmas.Bool.Decides.{nat_tests};
@@ -15,53 +15,22 @@ use units::unit::Unit;
 #[derive(Clone, Copy)]
 pub struct Primes;
 
+const PRIMES: [u32; 25] = [
+    2, 3, 5, 7, 11, 13, 17, 19, 23, 29, 31, 37, 41, 43, 47, 53, 59, 61, 67, 71, 73, 79, 83, 89, 97,
+];
+
 fn is_prime(offset: u32) -> bool
     ensures { result ≡ is_prime offset }
 {
-    matches!(
-        offset,
-        2 | 3
-            | 5
-            | 7
-            | 11
-            | 13
-            | 17
-            | 19
-            | 23
-            | 29
-            | 31
-            | 37
-            | 41
-            | 43
-            | 47
-            | 53
-            | 59
-            | 61
-            | 67
-            | 71
-            | 73
-            | 79
-            | 83
-            | 89
-            | 97
-    )
+    PRIMES.contains(&offset)
 }
 
-fn tally(offset: u32) -> u32
-    ensures { result ≡ (if is_prime offset then 1 else 0) }
-{
-    if is_prime(offset) { 1 } else { 0 }
-}
-
-// How many of the `count` numbers from `from` on are primes below 100. None is past that, so the loop is short.
+// How many of the `count` numbers from `from` on are primes below 100. None is past that, so the range is short.
 fn primes_within(from: u32, count: u32) -> u32
     ensures { result ≡ counted is_prime from count }
 {
-    let mut primes = 0;
-    for k in 0..count.min(100u32.saturating_sub(from)) {
-        primes += tally(from + k);
-    }
-    primes
+    let end = from.saturating_add(count).min(100);
+    (from..end).filter(|offset| is_prime(*offset)).count() as u32
 }
 
 impl Unit for Primes {
@@ -88,7 +57,7 @@ impl Unit for Primes {
 
     fn price(&self, charge: Charge) -> u64 {
         if charge.size <= 1000 {
-            charge.size as u64
+            u64::from(charge.size)
         } else {
             0
         }
@@ -102,7 +71,8 @@ impl Unit for Primes {
         }
     }
 
+    // Word for word the lump of pulses: each unit states its own, and a function in common would need a clause of its own.
     fn lump(&self, _charge: Charge, duration: u16) -> u16 {
-        if duration > 36000 { 0 } else { duration.min(1) }
+        u16::from((1..=36000).contains(&duration))
     }
 }

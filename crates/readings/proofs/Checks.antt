@@ -1,17 +1,16 @@
 -- Each check finds the first offset with a ground, where there is one.
 use Rattle.std.proofs.Common.{◌≡◌, ℕ, ◌+◌, min, Bool, false, cond, not, ◌&&◌, eqb, ltb, List, length, Some, None, Decides, Option, refl, inl, inr, arith}
 use Rattle.std.proofs.lemmas.Bool.{cond_both, eqb-true, eqb-false, ltb-true, ltb-false, not-true, not_from_false}
-use Rattle.std.proofs.lemmas.Bool.Decides.{nat_tests, Decides-eqb, Decides-ltb, Decides-and, Decides-or, Decides-not, not_from_Decides}
+use Rattle.std.proofs.lemmas.Bool.Decides.{nat_tests, Decides-eqb, Decides-and, Decides-or, Decides-not, not_from_Decides}
 use Rattle.indication.specs.declared.header.Kind.{Kind}
-use Rattle.indication.specs.Numbers.{value}
 use Rattle.indication.specs.Codes.{kind_code}
-use Rattle.indication.specs.Format.{byte, part, current_count, next_count, entry_count, full_length, charge_offset, term_offset, charge_at, term_at}
-use Rattle.indication.specs.Rules.{First, WrongLengthAt, WrongCount, WrongFlag, WrongQuarter, IsTariff, IsAddOn, IsEmpty, BrokenHeader, BrokenUse, MisusedAt, Allowed, AllowedAt, DisallowedAt, InOrder, uses_from}
+use Rattle.indication.specs.Format.{byte, current_count, next_count, entry_count, full_length, charge_offset, term_offset, charge_at, term_at}
+use Rattle.indication.specs.Rules.{First, WrongLengthAt, WrongCount, WrongFlag, WrongQuarter, IsTariff, IsAddOn, IsEmpty, BrokenHeader, BrokenUse, MisusedAt, AllowedAt, DisallowedAt, InOrder, uses_from}
 use Rattle.reader.proofs.Misuses.{found, left_to_next}
 use Rattle.reader.proofs.Refusals.{in_header}
 use Rattle.units.specs.Meanings.{Meaning, admitted}
 use Rattle.units.specs.Admission.{NotAdmittedAt}
-use Rattle.readings.specs.Checks.{either, wrong_length, wrong_count, wrong_flag, wrong_quarter, wrong_header, broken_header, is_tariff, is_add_on, is_empty, misused, broken_use, allowed, allowed_at, disallowed, not_admitted}
+use Rattle.readings.specs.Checks.{either, wrong_length, wrong_count, wrong_flag, wrong_quarter, wrong_header, broken_header, is_tariff, is_add_on, is_empty, misused, broken_use, allowed_at, disallowed, not_admitted}
 use Rattle.readings.proofs.Firsts.{first_like, first_wrong_found}
 use Rattle.readings.proofs.Ordered.{decides_in_order}
 
@@ -28,12 +27,10 @@ length_first b =
 decides_count :
     {P : Type 0} (add_on : Bool) (wanted count : ℕ) → Decides add_on P
     → Decides (wrong_count add_on wanted count) (WrongCount P wanted count)
-decides_count add_on wanted count d =
-    Decides-or (ltb 6 count) _ (Decides-ltb 6 count) (Decides-and add_on _ d (Decides-not _ (Decides-eqb count wanted)))
+decides_count add_on wanted count d = (λ h. grind (arith, nat_tests, d.0), λ h. grind (arith, nat_tests, d.1))
 
 decides_flag : {P : Type 0} (idle : Bool) (flag : ℕ) → Decides idle P → Decides (wrong_flag idle flag) (WrongFlag P flag)
-decides_flag idle flag d =
-    Decides-or (ltb 1 flag) _ (Decides-ltb 1 flag) (Decides-and idle _ d (Decides-not _ (Decides-eqb flag 0)))
+decides_flag idle flag d = (λ h. grind (arith, nat_tests, d.0), λ h. grind (arith, nat_tests, d.1))
 
 decides_quarter : (count quarter : ℕ) → Decides (wrong_quarter count quarter) (WrongQuarter count quarter)
 decides_quarter count quarter = (λ h. grind (arith, nat_tests), λ h. grind (arith, nat_tests))
@@ -100,14 +97,8 @@ use_first b =
 pub decides_empty : (b : List ℕ) → Decides (is_empty b) (IsEmpty b)
 decides_empty b = Decides-and (is_tariff b) _ (Decides-eqb (byte b 2) 1) (Decides-eqb (entry_count b) 0)
 
-decides_allowed :
-    {P : Type 0} (u : ℕ) (last : Bool) (d : ℕ) → Decides last P → Decides (allowed u last d) (Allowed u P d)
-decides_allowed u last d h = (λ w. grind (arith, nat_tests), λ w. grind (arith, nat_tests))
-
 decides_allowed_at : (b : List ℕ) (i : ℕ) → Decides (allowed_at b i) (AllowedAt b i)
-decides_allowed_at b i =
-    decides_allowed (byte b (term_offset b i)) _ (value (part b (term_offset b i + 1) 2))
-    (Decides-or _ _ (Decides-eqb (i + 1) (current_count b)) (Decides-eqb (i + 1) (entry_count b)))
+decides_allowed_at b i = (λ h. grind (arith, nat_tests), λ h. grind (arith, nat_tests))
 
 pub duration_first : (b : List ℕ) → First (DisallowedAt b) (disallowed b)
 duration_first b =

@@ -43,25 +43,21 @@ module _ (m : Meaning) (taken : Kind) (b : List ℕ) where
       (λ c. (unit_accepted m taken b ok own c, refl)))
       (mark_refused m taken b ok)
 
-  -- of bytes that the reader refuses
-  by_reader : (f : Fault) → Refused taken b f → Reads m taken b (refused f)
-  by_reader = reader_refused m taken b
-
   -- what is computed is what the rule asks
   pub reading_right : Reads m taken b (reading m taken b)
   reading_right =
       let R = Reads m taken b in
       checked R (WrongLengthAt b) WrongLength (wrong_length b) _ (length_first b)
-      (λ at h. by_reader _ (length_refused taken b at h))
+      (λ at h. reader_refused m taken b _ (length_refused taken b at h))
       (λ l. checked R (BrokenHeader taken b) BrokenLayout (broken_header taken b) _ (header_first taken b)
-      (λ at h. by_reader _ (header_refused taken b l at h))
+      (λ at h. reader_refused m taken b _ (header_refused taken b l at h))
       (λ h. checked R (BrokenUse b) BrokenLayout (broken_use b) _ (use_first b)
-      (λ at u. by_reader _ (use_refused taken b l h at u))
+      (λ at u. reader_refused m taken b _ (use_refused taken b l h at u))
       (λ u. cond_both (is_empty b) (refused EmptyTariff) _ R
-      (λ e. by_reader _ (empty_refused taken b l h u ((decides_empty b).0 e)))
+      (λ e. reader_refused m taken b _ (empty_refused taken b l h u ((decides_empty b).0 e)))
       (λ e. let full = not_from_Decides (is_empty b) (decides_empty b) e in
       checked R (DisallowedAt b) WrongDuration (disallowed b) _ (duration_first b)
-      (λ at d. by_reader _ (duration_refused taken b l h u full at d))
+      (λ at d. reader_refused m taken b _ (duration_refused taken b l h u full at d))
       (λ d. unit_right (accepted taken b l h u full d))))))
 
 -- refusals that go before each other are one
