@@ -1,48 +1,28 @@
 -- The seat of a network, found one by one, and what stands in it.
-use Rattle.std.proofs.Common.{◌≡◌, ℕ, suc, ◌+◌, ◌<◌, ◌≤◌, true, false, cond, eqb, List, [], ◌∷◌, length, get_or, drop, set, is_some, Some, None, Option, unwrap_or, sym, refl, ap, ◌∙◌, ⊎_elim, arith, MatchOption}
+use Rattle.std.proofs.Common.{◌≡◌, ℕ, nat_lt, suc, ◌+◌, ◌<◌, ◌≤◌, false, cond, eqb, List, [], ◌∷◌, length, get_or, set, is_some, Some, None, Option, unwrap_or, sym, refl, ap, ◌∙◌, ⊎_elim, arith, MatchOption}
+use Rattle.std.specs.List.{position}
+use Rattle.record.specs.Seats.{suits}
 use Rattle.std.specs.Option.{option_map}
-use Rattle.std.proofs.lemmas.List.{at_drop_more, at_drop_all}
 use Rattle.std.proofs.lemmas.Option.{MatchOption-at_some, MatchOption-at_none}
-use Rattle.std.proofs.lemmas.Bool.{cases_Bool, cond-true, cond-false}
+use Rattle.std.proofs.lemmas.Bool.{cases_Bool, cond-true, cond-false, lt-ltb, le-ltb, ltb-true, ltb-false}
 use Rattle.record.specs.declared.operator.Operator.{Operator}
 use Rattle.record.specs.Operators.{newcomer}
 use Rattle.record.specs.Calls.{is_seated, seat_changed, seat_of}
-use Rattle.record.specs.Seats.{suits}
 
--- a place among what is left, as a place among all: i were passed
-abbrev pub from : ℕ → Option ℕ → Option ℕ
-from i o = option_map (λ k. i + k) o
+-- a first place, one further on
+further : (i n : ℕ) → cond (nat_lt (1 + i) (suc n)) (Some (1 + i)) None ≡ option_map suc (cond (nat_lt i n) (Some i) None)
+further i n =
+    let more : 1 + i ≡ suc i = omega arith in
+    ⊎_elim (λ in_range. let l : i < n = ltb-true i n in_range in rw (in_range, more) (cond-true _ _ _ (lt-ltb (suc i) (suc n) (omega arith))))
+    (λ past. let l : n ≤ i = ltb-false i n past in rw (past, more) (cond-false _ _ _ (le-ltb (suc i) (suc n) (omega arith)))) (cases_Bool (nat_lt i n))
 
-from_zero : (o : Option ℕ) → from 0 o ≡ o
-from_zero None = refl
-from_zero (Some k) = ap Some (omega arith)
-
-from_more : (i : ℕ) (o : Option ℕ) → from i (option_map suc o) ≡ from (i + 1) o
-from_more i None = refl
-from_more i (Some k) = ap Some (omega arith)
-
-module _ (network : ℕ) where
-  first_seat :
-      (seat : Option Operator) (seats : List (Option Operator))
-      → seat_of network (seat ∷ seats) ≡ cond (suits network seat) (Some 0) (option_map suc (seat_of network seats))
-  first_seat None seats = refl
-  first_seat (Some op) seats = refl
-
-  module _ (seats : List (Option Operator)) (i : ℕ) (in_List : i < length seats) where
-    step : from i (seat_of network (drop i seats)) ≡ from i (cond (suits network (get_or seats i None)) (Some 0) (option_map suc (seat_of network (drop (i + 1) seats))))
-    step = ap (from i) (at_drop_more (seat_of network) seats i None in_List ∙ first_seat (get_or seats i None) (drop (i + 1) seats))
-
-    pub seat_here : suits network (get_or seats i None) ≡ true → from i (seat_of network (drop i seats)) ≡ Some i
-    seat_here e = step ∙ ap (from i) (cond-true _ _ _ e) ∙ ap Some (omega arith)
-
-    pub seat_later : suits network (get_or seats i None) ≡ false → from i (seat_of network (drop i seats)) ≡ from (i + 1) (seat_of network (drop (i + 1) seats))
-    seat_later e = step ∙ ap (from i) (cond-false _ _ _ e) ∙ from_more i (seat_of network (drop (i + 1) seats))
-
-  pub seat_start : (seats : List (Option Operator)) → from 0 (seat_of network (drop 0 seats)) ≡ seat_of network seats
-  seat_start seats = from_zero (seat_of network seats)
-
-  pub seat_none : (seats : List (Option Operator)) (i : ℕ) → length seats ≤ i → from i (seat_of network (drop i seats)) ≡ None
-  seat_none seats i h = ap (from i) (at_drop_all (seat_of network) seats i h)
+-- the seat of a network is the first that suits
+pub seat_position : (network : ℕ) (seats : List (Option Operator)) → position (suits network) seats ≡ seat_of network seats
+seat_position network [] = refl
+seat_position network (None ∷ seats) = cond-true _ _ _ (lt-ltb 0 (suc (length seats)) (omega arith))
+seat_position network (Some op ∷ seats) =
+    ⊎_elim (λ own. rw own (cond-true _ _ _ (lt-ltb 0 (suc (length seats)) (omega arith))))
+    (λ other. rw other (further _ _ ∙ ap (option_map suc) (seat_position network seats))) (cases_Bool (eqb op.network network))
 
 -- what holds of the seat of a network
 pub record IsSeat (network : ℕ) (seats : List (Option Operator)) (i : ℕ) : Type 0 where

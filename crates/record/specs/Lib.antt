@@ -2,5 +2,5 @@ pub mod Quarters
 pub mod Operators
 pub mod Calls
 pub mod Refusals
-pub mod Events
+pub mod Stretches
 pub mod Seats

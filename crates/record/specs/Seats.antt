@@ -1,6 +1,7 @@
 -- The seats of a call, and the one that an indication finds.
 use Rattle.std.specs.Prelude.{◌≡◌, ℕ, ◌+◌, ◌<◌, Bool, true, cond, not, ◌&&◌, List, Some, None, Err, Option, Result, MatchResult, ◌==◌, nat_le, slice_set}
 use Rattle.std.specs.Option.{ok_or}
+use Rattle.std.specs.Result.{result_map_both}
 use Rattle.indication.specs.declared.header.Kind.{Kind}
 use Rattle.indication.specs.declared.header.Kind.TheVariants.{Tariff, AddOn}
 use Rattle.indication.specs.declared.fault.Fault.{Fault}
@@ -10,6 +11,7 @@ use Rattle.indication.specs.Rules.{Foremost, Groundless}
 use Rattle.units.specs.Meanings.{Meaning}
 use Rattle.record.specs.declared.call.Call.{Call}
 use Rattle.record.specs.declared.operator.Operator.{Operator}
+use Rattle.record.specs.declared.seat.Seat.{Seat}
 use Rattle.record.specs.Calls.{seat_of, is_seated}
 use Rattle.record.specs.Operators.{add_on_price, owing, received_by}
 use Rattle.record.specs.Refusals.{CallGrounds, received_as}
@@ -18,6 +20,13 @@ use Rattle.record.specs.Refusals.{CallGrounds, received_as}
 abbrev pub suits : ℕ → Option Operator → Bool
 suits network None = true
 suits network (Some op) = op.network == network
+
+abbrev pub index_of : Seat → ℕ
+index_of seat = seat.index
+
+-- a seat that was found, by its index
+abbrev pub index_found : Result Seat Fault → Result ℕ Fault
+index_found r = result_map_both index_of (λ f. f) r
 
 abbrev pub is_full : Call → Bool
 is_full call = nat_le 512 call.accepted
@@ -51,11 +60,10 @@ seated seat op call =
     }
 
 -- what an indication comes to before it changes the call: a seat and the operator that is to be in it, or the refusal
-abbrev pub Placed : Meaning → Call → Kind → List ℕ → Result (ℕ × Operator) Fault → Type 0
+abbrev pub Placed : Meaning → Call → Kind → List ℕ → Result (Seat × Operator) Fault → Type 0
 Placed m call taken b r =
     MatchResult r (λ p.
     Groundless (CallGrounds m call taken b)
     × (call.accepted < 512)
-    × (p.0 < 4)
-    × (seated p.0 p.1 call ≡ received_as taken m (decoded b) call))
+    × (seated p.0.index p.1 call ≡ received_as taken m (decoded b) call))
     (λ f. Foremost (CallGrounds m call taken b) f)

@@ -4,7 +4,7 @@ use crate::operator::Operator;
 pub(crate) const DAY: u32 = 86400;
 
 /// What a call is doing.
-#[derive(Clone, Copy, PartialEq, Eq)]
+#[derive(Clone, Copy, PartialEq, Eq, Debug)]
 pub enum Phase {
     SetUp,
     Charging,
@@ -22,5 +22,6 @@ pub struct Call {
     /// how many indications were accepted
     pub accepted: u16,
     /// the operators, in order of their first accepted indication
+    // An array of seats and no list with a length: the memory is fixed, and the definitions say which seats are free.
     pub operators: [Option<Operator>; 4],
 }

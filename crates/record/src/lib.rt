@@ -3,13 +3,14 @@
 #![tactic(auto)]
 
 pub mod call;
-mod events;
 pub mod operator;
 mod owing;
 mod passing;
 mod phases;
 mod quarters;
 mod receiving;
+mod seat;
 mod seats;
 pub mod statement;
+mod stretch;
 mod switching;

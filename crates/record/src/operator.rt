@@ -5,6 +5,7 @@ use indication::header::TariffControl;
 use tariffs::tariff::Tariff;
 
 /// What the call keeps of one operator. Moments are clock values: seconds since the call was opened.
+// A moment stays a number: the definitions and the charges compute with it, and a type of its own would only be unwrapped.
 #[derive(Clone, Copy)]
 pub struct Operator {
     pub network: u64,

@@ -1,58 +1,63 @@
-ghost use Rattle.std.specs.Prelude.{◌≡◌, ◌+◌, ◌-◌, ◌^◌, ◌<◌, ◌≤◌, min};
-ghost use Rattle.record.specs.Operators.{over_stretch, passed, reached, stretched, stretched_across};
+ghost use Rattle.std.specs.Prelude.{◌≡◌, ◌-◌, ◌^◌, false, true, min, MatchOption};
+ghost use Rattle.record.specs.Operators.{over_stretch, passed, reached, stretched};
+ghost use Rattle.record.specs.Stretches.{Splits};
 
 use crate::operator::Operator;
+use crate::stretch::Stretch;
 use units::unit::Bounded;
 
+impl Stretch {
+    // What passes before a moment and from it on, where the moment is reached: after the start, and at the end at the latest.
+    fn split_at(self, due: u64) -> Option<(Stretch, Stretch)>
+        ensures { MatchOption result (reached self.from self.seconds due ≡ false) (λ parts. (reached self.from self.seconds due ≡ true) × Splits self due parts.0 parts.1) }
+    {
+        if due <= self.from as u64 || due > self.from as u64 + self.seconds as u64 {
+            return None;
+        }
+        let due = due as u32;
+        let before = Stretch {
+            from: self.from,
+            seconds: due - self.from,
+        };
+        let after = Stretch {
+            from: due,
+            seconds: self.from + self.seconds - due,
+        };
+        Some((before, after))
+    }
+}
+
 impl Operator {
-    // What the tariff in force charges over `seconds` seconds from `clock` on, or the largest amount where it does not fit.
-    fn price_over<U: Bounded>(self, unit: &U, clock: u32, seconds: u32) -> u64
-        ensures { result ≡ min (over_stretch (U.Unit.meaning unit.now) self.tariff clock seconds self.origin) (2 ^ 64 - 1) }
+    // What the tariff in force charges over a stretch, or the largest amount where it does not fit.
+    fn price_over<U: Bounded>(self, unit: &U, stretch: Stretch) -> u64
+        ensures { result ≡ min (over_stretch (U.Unit.meaning unit.now) self.tariff stretch.from stretch.seconds self.origin) (2 ^ 64 - 1) }
     {
         let Some(origin) = self.origin else {
             return 0;
         };
-        let from = clock.saturating_sub(origin);
+        let from = stretch.from.saturating_sub(origin);
         self.tariff
-            .price_of_stretch(unit, from, seconds)
+            .price_of_stretch(unit, from, stretch.seconds)
             .unwrap_or(u64::MAX)
     }
 
-    // Seconds pass without a switch-over.
-    fn stretched<U: Bounded>(self, unit: &U, clock: u32, seconds: u32) -> Operator
-        ensures { result ≡ stretched (U.Unit.meaning unit.now) clock seconds self }
+    // A stretch passes without a switch-over.
+    fn stretched<U: Bounded>(self, unit: &U, stretch: Stretch) -> Operator
+        ensures { result ≡ stretched (U.Unit.meaning unit.now) stretch.from stretch.seconds self }
     {
-        self.owing(self.price_over(unit, clock, seconds))
+        self.owing(self.price_over(unit, stretch))
     }
 
-    // Seconds pass, with a switch-over at a moment among them.
-    fn stretched_across<U: Bounded>(self, unit: &U, clock: u32, seconds: u32, due: u32) -> Operator
-        requires { (clock ≤ due) × ((due ≤ clock + seconds) × (clock + seconds < 2 ^ 32)) }
-        ensures { result ≡ stretched_across (U.Unit.meaning unit.now) clock seconds due self }
+    // A stretch passes.
+    pub(crate) fn passed<U: Bounded>(self, unit: &U, stretch: Stretch) -> Operator
+        ensures { result ≡ passed (U.Unit.meaning unit.now) stretch.from stretch.seconds self }
     {
-        let before = self.stretched(unit, clock, due - clock);
-        before
-            .switched_over()
-            .stretched(unit, due, clock + seconds - due)
-    }
-
-    // Seconds pass.
-    pub(crate) fn passed<U: Bounded>(self, unit: &U, clock: u32, seconds: u32) -> Operator
-        requires { clock + seconds < 2 ^ 32 }
-        ensures { result ≡ passed (U.Unit.meaning unit.now) clock seconds self }
-    {
-        match self.due {
-            Some(due) if is_reached(clock, seconds, due) => {
-                self.stretched_across(unit, clock, seconds, due as u32)
-            }
-            _ => self.stretched(unit, clock, seconds),
+        match self.due.and_then(|due| stretch.split_at(due)) {
+            Some((before, after)) => self
+                .stretched(unit, before)
+                .switched_over()
+                .stretched(unit, after),
+            None => self.stretched(unit, stretch),
         }
     }
-}
-
-// Whether an advance reaches a moment: after its start, and at its end at the latest.
-fn is_reached(clock: u32, seconds: u32, due: u64) -> bool
-    ensures { result ≡ reached clock seconds due }
-{
-    (clock as u64) < due && due <= clock as u64 + seconds as u64
 }

@@ -1,11 +1,12 @@
-ghost use Rattle.record.specs.Calls.{entering, opened, released, started};
-ghost use Rattle.record.specs.Events.{after, seconds_of};
+ghost use Rattle.record.specs.Calls.{entering, everyone, opened, released, started};
 ghost use Rattle.record.specs.Refusals.{Passes};
 ghost use Rattle.record.specs.declared.call.Phase.TheVariants.{Closed};
 ghost use Rattle.std.specs.Prelude.{◌≡◌};
 
 use crate::call::{Call, DAY, Phase};
-use crate::events::{Event, everyone_after};
+use crate::operator::Operator;
+use crate::owing::price_of;
+use crate::stretch::Stretch;
 use indication::fault::Fault;
 use units::unit::Bounded;
 
@@ -31,7 +32,11 @@ impl Call {
         if seconds > left {
             return Err(Fault::PastLimit(left));
         }
-        self.operators = everyone_after(self.operators, unit, Event::Seconds(seconds), self.clock);
+        let stretch = Stretch {
+            from: self.clock,
+            seconds,
+        };
+        self.operators = everyone(self.operators, |operator| operator.passed(unit, stretch));
         self.clock += seconds;
         Ok(())
     }
@@ -40,8 +45,11 @@ impl Call {
     pub fn start<U: Bounded>(&mut self, unit: &U)
         ensures { self.new ≡ started (U.Unit.meaning unit.now) self.old }
     {
-        if let Phase::SetUp = self.phase {
-            self.enter(Phase::Charging, unit, Event::Beginning);
+        if self.phase == Phase::SetUp {
+            let clock = self.clock;
+            self.enter(Phase::Charging, |operator| {
+                operator.begun_in(unit, Phase::Charging, clock)
+            });
         }
     }
 
@@ -50,25 +58,31 @@ impl Call {
         ensures { self.new ≡ released (U.Unit.meaning unit.now) self.old }
     {
         match self.phase {
-            Phase::SetUp => self.enter(Phase::Closed, unit, Event::Attempt),
-            Phase::Charging => self.close(),
+            Phase::SetUp => self.enter(Phase::Closed, |operator| {
+                operator.owing(price_of(unit, operator.tariff.attempt))
+            }),
+            Phase::Charging => self.phase = Phase::Closed,
             Phase::Closed => {}
         }
     }
 
-    // The call enters a phase by an event.
-    fn enter<U: Bounded>(&mut self, phase: Phase, unit: &U, event: Event)
-        requires { seconds_of event ≡ 0 }
-        ensures { self.new ≡ entering phase (after event (U.Unit.meaning unit.now) self.old.clock) self.old }
+    // The call enters a phase, and every operator changes.
+    fn enter<F: Fn(Operator) -> Operator>(&mut self, phase: Phase, change: F)
+        requires { F.IsAlwaysCallable change }
+        ensures { (changed : Operator → Operator) → ((op new : Operator) → F.post change op new → new ≡ changed op) → self.new ≡ entering phase changed self.old }
     {
-        self.operators = everyone_after(self.operators, unit, event, self.clock);
+        self.operators = everyone(self.operators, change);
         self.phase = phase;
     }
+}
 
-    // The call is closed, and its operators are as they were.
-    fn close(&mut self)
-        ensures { self.new ≡ entering Closed (λ op. op) self.old }
-    {
-        self.phase = Phase::Closed;
-    }
+// Every operator changes.
+fn everyone<F: Fn(Operator) -> Operator>(
+    seats: [Option<Operator>; 4],
+    change: F,
+) -> [Option<Operator>; 4]
+    requires { F.IsAlwaysCallable change }
+    ensures { (changed : Operator → Operator) → ((op new : Operator) → F.post change op new → new ≡ changed op) → result ≡ everyone changed seats }
+{
+    seats.map(|seat| seat.map(|operator| change(operator)))
 }

@@ -6,6 +6,7 @@ ghost use Rattle.std.specs.Prelude.{◌≡◌};
 
 use crate::call::Call;
 use crate::operator::Operator;
+use crate::seat::Seat;
 use indication::fault::Fault;
 use indication::header::Kind;
 use indication::value::Indication;
@@ -16,10 +17,8 @@ use units::unit::Bounded;
 fn add_on_price<U: Bounded>(unit: &U, indication: &Indication) -> u64
     ensures { result ≡ add_on_price (U.Unit.meaning unit.now) (content_of indication.now) }
 {
-    match indication.current.as_slice() {
-        [] => 0,
-        [first, ..] => unit.price(first.charge),
-    }
+    let first = indication.current.as_slice().first();
+    first.map_or(0, |entry| unit.price(entry.charge))
 }
 
 impl Operator {
@@ -56,7 +55,7 @@ impl Call {
         unit: &U,
         kind: Kind,
         bytes: &[u8],
-    ) -> Result<(usize, Operator), Fault>
+    ) -> Result<(Seat, Operator), Fault>
         ensures { Placed (U.Unit.meaning unit.now) self.now kind bytes.now result }
     {
         let reader = read_for(bytes, kind, unit)?;

@@ -1,10 +1,9 @@
 ghost use Rattle.indication.specs.Format.{content_of, listed};
-ghost use Rattle.record.specs.Operators.{due_for, is_due, origin_after, received_by, switched_at, switched_over, tariff_in, with_current, with_next};
+ghost use Rattle.record.specs.Operators.{origin_after, received_by, switched_at, switched_over, tariff_in, with_current, with_next};
 ghost use Rattle.std.specs.Prelude.{◌≡◌};
 
 use crate::call::Call;
 use crate::operator::Operator;
-use crate::quarters::due_at;
 use indication::entries::Entries;
 use indication::header::{Change, TariffControl};
 use indication::value::Indication;
@@ -31,26 +30,6 @@ fn origin_after(clock: u32, change: Change, beginning: Option<u32>) -> Option<u3
     }
 }
 
-// When a next tariff takes over.
-fn due_for(opening: u32, quarter: u8, clock: u32, next: Option<Tariff>) -> Option<u64>
-    ensures { result ≡ due_for opening quarter clock next }
-{
-    match next {
-        Some(_) => Some(due_at(opening, quarter, clock)),
-        None => None,
-    }
-}
-
-// Whether a switch-over falls due at a moment.
-fn is_due(clock: u32, due: Option<u64>) -> bool
-    ensures { result ≡ is_due clock due }
-{
-    match due {
-        Some(due) => due == clock as u64,
-        None => false,
-    }
-}
-
 impl Operator {
     // A current tariff replaces the one in force.
     fn with_current(self, clock: u32, change: Change, current: Option<Tariff>) -> Operator
@@ -68,10 +47,10 @@ impl Operator {
     }
 
     // A next tariff replaces the pending one, and its absence clears it.
-    fn with_next(self, opening: u32, quarter: u8, clock: u32, next: Option<Tariff>) -> Operator
-        ensures { result ≡ with_next opening quarter clock next self }
+    fn with_next(self, call: &Call, quarter: u8, next: Option<Tariff>) -> Operator
+        ensures { result ≡ with_next call.now.opening quarter call.now.clock next self }
     {
-        let due = due_for(opening, quarter, clock, next);
+        let due = next.and(Some(call.due_at(quarter)));
         Operator { next, due, ..self }
     }
 
@@ -92,7 +71,7 @@ impl Operator {
     fn switched_at(self, clock: u32) -> Operator
         ensures { result ≡ switched_at clock self }
     {
-        if is_due(clock, self.due) {
+        if self.due == Some(clock as u64) {
             self.switched_over()
         } else {
             self
@@ -112,7 +91,7 @@ impl Operator {
         let current = tariff_in(header.current_control, &indication.current);
         let next = tariff_in(header.next_control, &indication.next);
         self.with_current(call.clock, header.change, current)
-            .with_next(call.opening, header.quarter, call.clock, next)
+            .with_next(call, header.quarter, next)
             .switched_at(call.clock)
             .begun_in(unit, call.phase, call.clock)
     }

@@ -16,7 +16,7 @@ returns-in_err-seat g c =
     let read = c.in_ok-reader.ensures in
     rw (p.1, p.2)
     (finds (g.U.Unit.meaning c.args.unit.now) c.args.self.now c.args.kind c.args.bytes.now _ read.1 _ c.header-network.ensures _
-    c.current_count.ensures read.0 (Err c.in_err-seat.field-0.0) c.in_err-seat.ensures.is)
+    c.current_count.ensures read.0 (Err c.in_err-seat.field-0.0) c.in_err-seat.ensures)
 
 pub returns : goal.returns
 returns g c =
@@ -24,10 +24,9 @@ returns g c =
     let call = c.args.self.now in
     let read = c.in_ok-reader.ensures in
     let found = finds m call c.args.kind c.args.bytes.now _ read.1 _ c.header-network.ensures _ c.current_count.ensures read.0
-    (Ok c.in_ok-seat.seat) c.in_ok-seat.ensures.is in (
+    (Ok c.in_ok-seat.seat.index) c.in_ok-seat.ensures in (
       found.0,
       found.1,
-      c.in_ok-seat.ensures.below,
       received m call c.args.kind c.args.bytes.now _ read.1 _ c.header-network.ensures _ found.2 _ c.occupant-operator.ensures _
           c.indication.ensures.says _ c.indicated.ensures,
     )
