@@ -1,7 +1,7 @@
-ghost use Rattle.commands.specs.Sayings.{said_of, size_of};
+ghost use Rattle.commands.specs.Sayings.{said_of};
 ghost use Rattle.exchange.specs.Exchanges.{LinePerformed, asked_by};
 ghost use Rattle.meter.specs.Meters.{asked};
-ghost use Rattle.std.specs.Prelude.{◌≡◌, ◌≤◌, length};
+ghost use Rattle.std.specs.Prelude.{◌≡◌};
 
 use crate::reply::{Reply, echo};
 use commands::command::{Command, parse_command};
@@ -13,15 +13,14 @@ use units::unit::Bounded;
 // The most bytes that a line's digits write.
 const MOST_BYTES: usize = LIMIT / 2;
 
-// The request of a command whose indication is at the front of the buffer.
-fn request_of<'a>(command: Command, bytes: &'a [u8]) -> Request<'a>
-    requires { size_of command ≤ length bytes.now }
-    ensures { asked result ≡ asked_by (said_of command bytes.now) }
+// The request that a command makes.
+fn request_of<const ROOM: usize>(command: &Command<ROOM>) -> Request<'_>
+    ensures { asked result ≡ asked_by (said_of command.now) }
 {
     match command {
-        Command::Tariff(count) => Request::Tariff(&bytes[0..count]),
-        Command::AddOn(count) => Request::AddOn(&bytes[0..count]),
-        Command::Advance(seconds) => Request::Advance(seconds),
+        Command::Tariff(bytes) => Request::Tariff(bytes.as_slice()),
+        Command::AddOn(bytes) => Request::AddOn(bytes.as_slice()),
+        Command::Advance(seconds) => Request::Advance(*seconds),
         Command::Start => Request::Start,
         Command::Release => Request::Release,
     }
@@ -31,10 +30,9 @@ fn request_of<'a>(command: Command, bytes: &'a [u8]) -> Request<'a>
 pub fn perform_line<U: Bounded + Drop>(meter: Meter<U>, line: &[u8]) -> (Meter<U>, Reply)
     ensures { LinePerformed U.Unit.meaning meter line.now result.0 result.1 }
 {
-    let mut bytes = [0; MOST_BYTES];
-    let Some(command) = parse_command(line, &mut bytes) else {
+    let Some(command) = parse_command::<MOST_BYTES>(line) else {
         return (meter, Reply::Unknown);
     };
-    let (meter, answer) = perform(meter, request_of(command, &bytes));
-    (meter, echo(command, answer))
+    let (meter, answer) = perform(meter, request_of(&command));
+    (meter, echo(&command, answer))
 }

@@ -1,8 +1,10 @@
-ghost use Rattle.exchange.specs.Exchanges.{echoed, letter_of};
-ghost use Rattle.std.specs.Prelude.{◌≡◌};
+ghost use Rattle.commands.specs.Sayings.{said_of};
+ghost use Rattle.exchange.specs.Exchanges.{echoed, letter_in, written};
+ghost use Rattle.std.specs.Prelude.{Some, ◌≡◌};
 
 use account::answer::Answer;
 use commands::command::Command;
+use indication::fault::Fault;
 use std::fmt;
 
 /// What is written back for a line.
@@ -10,43 +12,44 @@ use std::fmt;
 pub enum Reply {
     /// the line is no command, or none that the call allows
     Unknown,
-    /// the letter of the command, with the number of its refusal and the offset or the seconds left; 0 and 0 where it was
-    /// accepted
-    Echo(u8, u8, usize),
+    /// the letter of the command, which was accepted or refused
+    Echo(char, Result<(), Fault>),
 }
 
 impl fmt::Display for Reply {
+    ghost output = { λ reply. Some (written reply) };
+
     fn fmt<W: fmt::Write>(&self, f: &mut fmt::Formatter<W>) -> fmt::Result {
         match *self {
-            Reply::Unknown => write!(f, "? 0 0"),
-            Reply::Echo(letter, number, offset) => {
-                let letter = letter as char;
-                write!(f, "{letter} {number} {offset}")
+            Reply::Unknown => f.write_str("? 0 0"),
+            Reply::Echo(letter, Ok(())) => write!(f, "{letter} 0 0"),
+            Reply::Echo(letter, Err(fault)) => {
+                write!(f, "{letter} {} {}", fault.number(), fault.offset())
             }
         }
     }
 }
 
 // The letter of a command.
-fn letter(command: Command) -> u8
-    ensures { result ≡ letter_of command }
+fn letter<const ROOM: usize>(command: &Command<ROOM>) -> char
+    ensures { result ≡ letter_in (said_of command.now) }
 {
     match command {
-        Command::Tariff(_) => b'T',
-        Command::AddOn(_) => b'A',
-        Command::Advance(_) => b'W',
-        Command::Start => b'S',
-        Command::Release => b'R',
+        Command::Tariff(_) => 'T',
+        Command::AddOn(_) => 'A',
+        Command::Advance(_) => 'W',
+        Command::Start => 'S',
+        Command::Release => 'R',
     }
 }
 
 // The reply to a command, by its answer.
-pub(crate) fn echo(command: Command, answer: Answer) -> Reply
-    ensures { result ≡ echoed (letter_of command) answer }
+pub(crate) fn echo<const ROOM: usize>(command: &Command<ROOM>, answer: Answer) -> Reply
+    ensures { result ≡ echoed (letter_in (said_of command.now)) answer }
 {
     match answer {
-        Answer::Accepted => Reply::Echo(letter(command), 0, 0),
-        Answer::Refused(fault) => Reply::Echo(letter(command), fault.number(), fault.offset()),
+        Answer::Accepted => Reply::Echo(letter(command), Ok(())),
+        Answer::Refused(fault) => Reply::Echo(letter(command), Err(fault)),
         Answer::NotAllowed | Answer::Owed(_) | Answer::Total(_) | Answer::Line(_) => Reply::Unknown,
     }
 }

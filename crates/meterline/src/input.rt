@@ -1,63 +1,32 @@
 //! Lines of standard input, one at a time, in bounded memory.
 
 use lines::line::LineBuffer;
-use std::io;
-use std::io::Read;
+use std::io::{self, BufRead, BufReader, Bytes, Read, StdinLock};
 
-const CHUNK: usize = 4096;
-
-/// What was read and not yet taken, and the line that was taken last.
+/// The bytes of standard input that are still to be taken.
 #[derive(Drop)]
-pub struct Input {
-    chunk: [u8; CHUNK],
-    taken: usize,
-    count: usize,
-    line: LineBuffer,
+pub(crate) struct Input {
+    bytes: Bytes<BufReader<StdinLock<'static>>>,
 }
 
 impl Input {
-    pub(crate) fn new() -> Input {
-        Input {
-            chunk: [0; CHUNK],
-            taken: 0,
-            count: 0,
-            line: LineBuffer::new(),
-        }
+    pub(crate) fn new(rt: &HostRuntime) -> io::Result<Input> {
+        let bytes = BufReader::new(rt.alloc(), rt.reader())?.bytes();
+        Ok(Input { bytes })
     }
 
-    // The next byte; none at the end of the input.
-    fn next_byte(&mut self, rt: &HostRuntime) -> io::Result<Option<u8>> {
-        if self.taken >= self.count {
-            self.count = rt.stdin().read(&mut self.chunk)?;
-            self.taken = 0;
-        }
-        if self.taken >= self.count || self.taken >= CHUNK {
-            return Ok(None);
-        }
-        let byte = self.chunk[self.taken];
-        self.taken += 1;
-        Ok(Some(byte))
-    }
-
-    /// Takes the next line; false where there is none. A last line without a line feed counts, unless it is empty.
-    pub(crate) fn take_line(&mut self, rt: &HostRuntime) -> io::Result<bool> {
-        self.line.clear();
-        // nothing says that an input ends, so its bytes are counted
-        for _ in 0..u64::MAX {
-            match self.next_byte(rt)? {
-                Some(b'\n') => return Ok(true),
-                Some(byte) => self.line.push(byte),
-                None => break,
+    /// Takes the next line; none at the end of the input. A last line without a line feed counts, unless it is empty.
+    pub(crate) fn next_line(&mut self) -> io::Result<Option<LineBuffer>> {
+        let mut line = LineBuffer::new();
+        for byte in self.bytes.by_ref() {
+            match byte? {
+                b'\n' => return Ok(Some(line)),
+                byte => line.push(byte),
             }
         }
-        match self.line.line() {
-            Some([]) => Ok(false),
-            _ => Ok(true),
-        }
-    }
-
-    /// The line that was taken; none where it is too long.
-    pub(crate) fn line(&self) -> Option<&[u8]> {
-        self.line.line()
+        Ok(match line.line() {
+            Some([]) => None,
+            _ => Some(line),
+        })
     }
 }

@@ -15,27 +15,22 @@ use units::currency::Currency;
 use units::limit::PriceLimit;
 use units::pulses::Pulses;
 
-// What the first line opens; none where it is too long.
-fn opening_of(line: Option<&[u8]>) -> Option<Opening> {
-    parse_opening(line?)
-}
-
 fn main(rt: HostRuntime) -> io::Result<()> {
-    let mut input = Input::new();
-    if !input.take_line(&rt)? {
+    let mut input = Input::new(&rt)?;
+    let Some(line) = input.next_line()? else {
         return Ok(());
-    }
-    let Some(Opening { unit, second }) = opening_of(input.line()) else {
+    };
+    let Some(Opening { unit, second }) = line.line().and_then(parse_opening) else {
         return println!(&rt; "{}", Reply::Unknown);
     };
     match unit {
         UnitName::Currency => {
             let unit = PriceLimit { unit: Currency };
-            serve(&rt, &mut input, Meter::open(unit, second))
+            serve(&rt, input, Meter::open(unit, second))
         }
         UnitName::Pulses => {
             let unit = PriceLimit { unit: Pulses };
-            serve(&rt, &mut input, Meter::open(unit, second))
+            serve(&rt, input, Meter::open(unit, second))
         }
     }
 }

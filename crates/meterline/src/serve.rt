@@ -11,16 +11,15 @@ use units::unit::Bounded;
 /// Answers each line of the input, until the call is released or the input ends.
 pub(crate) fn serve<U: Bounded + Drop>(
     rt: &HostRuntime,
-    input: &mut Input,
-    meter: Meter<U>,
+    mut input: Input,
+    mut meter: Meter<U>,
 ) -> io::Result<()> {
-    let mut meter = meter;
     // nothing says that an input ends, so its lines are counted
     for _ in 0..u64::MAX {
-        if !input.take_line(rt)? {
+        let Some(line) = input.next_line()? else {
             break;
-        }
-        let Some(line) = input.line() else {
+        };
+        let Some(line) = line.line() else {
             println!(rt; "{}", Reply::Unknown)?;
             continue;
         };

@@ -7,17 +7,11 @@ mod session;
 
 use lines::line::LineBuffer;
 use session::Session;
-use std::io;
-use std::io::Read;
-
-// The name of a run, where the line has one.
-fn is_name(line: Option<&[u8]>) -> bool {
-    matches!(line, Some([b'#', ..]))
-}
+use std::io::{self, BufRead, BufReader, Read};
 
 fn print_bytes(rt: &HostRuntime, line: &[u8]) -> io::Result<()> {
     for byte in line {
-        print!(rt; "{}", *byte as char)?;
+        print!(rt; "{}", char::from(*byte))?;
     }
     println!(rt)
 }
@@ -25,25 +19,20 @@ fn print_bytes(rt: &HostRuntime, line: &[u8]) -> io::Result<()> {
 fn main(rt: HostRuntime) -> io::Result<()> {
     let mut line = LineBuffer::new();
     let mut session = Session::Over;
-    // nothing says that an input ends, so its bytes are counted
-    for _ in 0..u64::MAX {
-        let mut byte = [0u8; 1];
-        if rt.stdin().read(&mut byte)? == 0 {
-            break;
-        }
-        if byte[0] != b'\n' {
-            line.push(byte[0]);
-            continue;
-        }
-        if is_name(line.line()) {
-            if let Some(name) = line.line() {
-                print_bytes(&rt, name)?;
+    for byte in BufReader::new(rt.alloc(), rt.reader())?.bytes() {
+        match byte? {
+            b'\n' => {
+                session = match line.line() {
+                    Some(name @ [b'#', ..]) => {
+                        print_bytes(&rt, name)?;
+                        Session::Unopened
+                    }
+                    line => session.after(&rt, line)?,
+                };
+                line.clear();
             }
-            session = Session::Unopened;
-        } else {
-            session = session.after(&rt, line.line())?;
+            byte => line.push(byte),
         }
-        line.clear();
     }
     Ok(())
 }

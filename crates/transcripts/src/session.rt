@@ -22,13 +22,8 @@ pub enum Session {
     Over,
 }
 
-// What the first line opens; none where it is too long.
-fn opening_of(line: Option<&[u8]>) -> Option<Opening> {
-    parse_opening(line?)
-}
-
 fn open(rt: &HostRuntime, line: Option<&[u8]>) -> io::Result<Session> {
-    let Some(Opening { unit, second }) = opening_of(line) else {
+    let Some(Opening { unit, second }) = line.and_then(parse_opening) else {
         println!(rt; "{}", Reply::Unknown)?;
         return Ok(Session::Over);
     };
@@ -67,14 +62,12 @@ impl Session {
     pub(crate) fn after(self, rt: &HostRuntime, line: Option<&[u8]>) -> io::Result<Session> {
         match self {
             Session::Unopened => open(rt, line),
-            Session::InCurrency(meter) => match answer(rt, meter, line)? {
-                Some(meter) => Ok(Session::InCurrency(meter)),
-                None => Ok(Session::Over),
-            },
-            Session::InPulses(meter) => match answer(rt, meter, line)? {
-                Some(meter) => Ok(Session::InPulses(meter)),
-                None => Ok(Session::Over),
-            },
+            Session::InCurrency(meter) => {
+                Ok(answer(rt, meter, line)?.map_or(Session::Over, Session::InCurrency))
+            }
+            Session::InPulses(meter) => {
+                Ok(answer(rt, meter, line)?.map_or(Session::Over, Session::InPulses))
+            }
             Session::Over => Ok(Session::Over),
         }
     }
