@@ -1,11 +1,10 @@
 -- What a meter has come to by a list of requests. Lists are newest first.
-use Rattle.std.specs.Prelude.{◌≡◌, ℕ, Bool, true, cond, not, List, [], ◌∷◌, map, Ok, Err, Option, Result}
+use Rattle.std.specs.Prelude.{◌≡◌, ℕ, Bool, true, cond, not, List, [], ◌∷◌, map}
 use Rattle.units.specs.Meanings.{Meaning}
 use Rattle.record.specs.declared.call.Phase.{Phase}
 use Rattle.record.specs.declared.call.Phase.TheVariants as phase
 use Rattle.record.specs.declared.call.Call.{Call}
 use Rattle.inquiry.specs.Inquiries.{owed_in}
-use Rattle.indication.specs.declared.fault.Fault.{Fault}
 use Rattle.account.specs.declared.answer.Answer.{Answer}
 use Rattle.account.specs.Requests.{Asked, Request, understood, tariff, add_on, advance, start, release, amount_owed, look_ahead, total, line}
 use Rattle.account.specs.Answers.{past, answers, owed_to}

@@ -1,5 +1,4 @@
-use Rattle.std.proofs.Common.{vec_items, sym}
-use Rattle.std.proofs.lemmas.List.{take_all}
+use Rattle.std.proofs.Common.{vec_items}
 use Rattle.meter.proofs.Runs.{one_more}
 use Rattle.meter.proofs.run.run.Goals as goal
 
@@ -8,8 +7,3 @@ loop-request-preserved g c =
     one_more g.U.Unit.meaning _ _ c.loop-request.meter c.perform-next.result.0 c.args.requests.now c.loop-request.request-index _
     (vec_items c.loop-request.answers) (vec_items c.push.new.self) c.perform-next.result.1
     c.loop-request-test.true c.loop-request.invariant.0 c.perform-next.ensures c.in_ok-push.ensures.items c.loop-request.invariant.1
-
-pub returns : goal.returns
-returns g c =
-    let all = take_all c.loop-request.request-index c.args.requests.now c.loop-request-test.false in
-    rw (c.record.ensures, sym c.open-meter.ensures.0, sym all) c.loop-request.invariant.1.accounted
