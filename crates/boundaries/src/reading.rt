@@ -1,6 +1,6 @@
 //! What the reader answers to an indication with some of its bytes changed.
 
-use crate::bases::{ADD_ON, BOTH, FULL, ONE, Text};
+use crate::bases::{ADD_ON, BOTH, Base, FULL, ONE, UNTAKEN};
 use indication::header::Kind;
 use lines::hexadecimal::decode;
 use reader::Reader;
@@ -209,9 +209,9 @@ static UNTAKEN_CASES: [Case; 4] = [
 
 const ROOM: usize = 4615;
 
-fn changed(base: Text, changes: &[(usize, u8)]) -> Result<[u8; ROOM], Fail> {
+fn changed(text: &[u8], changes: &[(usize, u8)]) -> Result<[u8; ROOM], Fail> {
     let mut bytes = [0u8; ROOM];
-    decode(base, &mut bytes)?;
+    decode(text, &mut bytes)?;
     for (offset, byte) in changes {
         if let Some(place) = bytes.get_mut(*offset) {
             *place = *byte;
@@ -227,9 +227,10 @@ fn answer(bytes: &[u8], taken: Kind) -> Answer {
     }
 }
 
-fn run_case(rt: &impl Abort, name: &str, base: Text, taken: Kind, case: &Case) -> Result<(), Fail> {
+fn run_case(rt: &impl Abort, base: Base, case: &Case) -> Result<(), Fail> {
+    let Base { name, text, taken } = base;
     let Case(changes, length, expected) = case;
-    let buffer = changed(base, changes)?;
+    let buffer = changed(text, changes)?;
     let Some(bytes) = buffer.get(0..*length) else {
         return Err(Fail::new("the case is too long"));
     };
@@ -241,28 +242,22 @@ fn run_case(rt: &impl Abort, name: &str, base: Text, taken: Kind, case: &Case) -
     Ok(())
 }
 
-fn run(rt: &impl Abort, name: &str, base: Text, taken: Kind, cases: &[Case]) -> Result<(), Fail> {
+fn run(rt: &impl Abort, base: Base, cases: &[Case]) -> Result<(), Fail> {
     for case in cases {
-        run_case(rt, name, base, taken, case)?;
+        run_case(rt, base, case)?;
     }
     Ok(())
 }
 
 #[test]
 fn tariffs(rt: HostRuntime) -> Result<(), Fail> {
-    run(&rt, "one entry", ONE, Kind::Tariff, &ONE_CASES)?;
-    run(&rt, "both tariffs", BOTH, Kind::Tariff, &BOTH_CASES)?;
-    run(&rt, "full tariffs", FULL, Kind::Tariff, &FULL_CASES)
+    run(&rt, ONE, &ONE_CASES)?;
+    run(&rt, BOTH, &BOTH_CASES)?;
+    run(&rt, FULL, &FULL_CASES)
 }
 
 #[test]
 fn add_ons(rt: HostRuntime) -> Result<(), Fail> {
-    run(&rt, "an add-on", ADD_ON, Kind::AddOn, &ADD_ON_CASES)?;
-    run(
-        &rt,
-        "an add-on, not taken",
-        ADD_ON,
-        Kind::Tariff,
-        &UNTAKEN_CASES,
-    )
+    run(&rt, ADD_ON, &ADD_ON_CASES)?;
+    run(&rt, UNTAKEN, &UNTAKEN_CASES)
 }

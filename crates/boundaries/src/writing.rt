@@ -1,6 +1,6 @@
 //! What the writer writes, and what it refuses.
 
-use crate::bases::{ADD_ON, BOTH, FULL, ONE, Text};
+use crate::bases::{ADD_ON, BOTH, Base, FULL, ONE};
 use Usage::{AddOn, Attempt, OneTime, Periodic, SetUp};
 use indication::entries::Entries;
 use indication::entry::{Charge, Entry, Term, Usage};
@@ -56,9 +56,10 @@ fn writes(
     );
 }
 
-fn round_trip(rt: &impl Abort, name: &str, base: Text, taken: Kind) -> Result<(), Fail> {
+fn round_trip(rt: &impl Abort, base: Base) -> Result<(), Fail> {
+    let Base { name, text, taken } = base;
     let mut buffer = [0u8; ROOM];
-    let length = decode(base, &mut buffer)?;
+    let length = decode(text, &mut buffer)?;
     let bytes = &buffer[0..length];
     let Ok(reader) = Reader::read(bytes, taken) else {
         return Err(Fail::new("the reader refuses it"));
@@ -81,10 +82,10 @@ fn round_trip(rt: &impl Abort, name: &str, base: Text, taken: Kind) -> Result<()
 
 #[test]
 fn round_trips(rt: HostRuntime) -> Result<(), Fail> {
-    round_trip(&rt, "one entry", ONE, Kind::Tariff)?;
-    round_trip(&rt, "both tariffs", BOTH, Kind::Tariff)?;
-    round_trip(&rt, "full tariffs", FULL, Kind::Tariff)?;
-    round_trip(&rt, "an add-on", ADD_ON, Kind::AddOn)
+    round_trip(&rt, ONE)?;
+    round_trip(&rt, BOTH)?;
+    round_trip(&rt, FULL)?;
+    round_trip(&rt, ADD_ON)
 }
 
 const MARK: Mark = Mark {

@@ -16,6 +16,7 @@ pub type Charging<U> = Metered<Started, U>;
 
 impl<U: Bounded> Charging<U> {
     /// Takes the bytes for an add-on indication.
+    // apart from `receive_tariff`, and no kind as a parameter: that a call in set-up takes no add-on is said by its type
     pub fn receive_add_on(&mut self, bytes: &[u8]) -> Result<(), Fault>
         ensures same { self.new.unit ≡ self.old.unit }
         ensures received { Received (U.Unit.meaning self.old.unit) self.old.call AddOn bytes.now result self.new.call }

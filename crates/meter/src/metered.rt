@@ -47,6 +47,7 @@ pub struct Metered<S, U> {
     pub(crate) state: PhantomData<S>,
 }
 
+// That the unit stays is said by each method that changes the call: it is a fact of two moments, and an invariant knows one.
 impl<S: Open, U: Bounded> Metered<S, U> {
     /// Takes the bytes for a tariff indication.
     pub fn receive_tariff(&mut self, bytes: &[u8]) -> Result<(), Fault>

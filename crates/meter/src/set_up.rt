@@ -25,6 +25,7 @@ impl<U: Bounded> SetUp<U> {
     }
 
     /// Charging begins.
+    // as `release` but for the step: with the step as a closure, its clause would stand here and at both callers
     pub fn start(self) -> Charging<U>
         ensures { (result.unit ≡ self.unit) × (result.call ≡ started (U.Unit.meaning self.unit) self.call) }
     {
