@@ -16,7 +16,7 @@ attempt_first u n o k h a =
     (λ l. ⊎_elim (λ m. omega (arith, o.set_ups k l m)) (λ m. omega (arith, o.subtariffs k m h)) (cases_lt k o.t))
     (cases_lt k o.s)
 
-order_more : (u : ℕ → ℕ) (k : ℕ) → InOrder u k → GoesOn u k → InOrder u (k + 1)
+pub order_more : (u : ℕ → ℕ) (k : ℕ) → InOrder u k → GoesOn u k → InOrder u (k + 1)
 order_more u k o (inl (a, first)) = record {
   s = 1;
   t = 1;
@@ -69,7 +69,7 @@ order_more u k o (inr (inr (a, h))) = record {
   subtariffs = λ j l m. ⊎_elim (λ l2. o.subtariffs j l l2) (λ g. let e : j ≡ k = omega arith in rw e a) (cases_lt j k);
 }
 
-order_goes_on : (u : ℕ → ℕ) (k : ℕ) → InOrder u (k + 1) → GoesOn u k
+pub order_goes_on : (u : ℕ → ℕ) (k : ℕ) → InOrder u (k + 1) → GoesOn u k
 order_goes_on u k o =
     ⊎_elim (λ l. inl (o.attempts k l, omega arith))
     (λ l. ⊎_elim
@@ -84,7 +84,7 @@ order_goes_on u k o =
     (cases_lt k o.t))
     (cases_lt k o.s)
 
-order_none : (u : ℕ → ℕ) → InOrder u 0
+pub order_none : (u : ℕ → ℕ) → InOrder u 0
 order_none u = record {
   s = 0;
   t = 0;

@@ -1,8 +1,9 @@
 ghost use Rattle.indication.specs.Codes.{kind_code, usage_code};
-ghost use Rattle.indication.specs.Format.{byte as byte_at, term_offset};
-ghost use Rattle.std.specs.Prelude.{◌≡◌, ◌<◌, ◌⊎◌, MatchOption};
+ghost use Rattle.indication.specs.Format.{byte as byte_at, part, term_offset};
+ghost use Rattle.indication.specs.Numbers.{value};
+ghost use Rattle.std.specs.Prelude.{◌≡◌, ◌+◌, ◌<◌, ◌⊎◌, MatchOption};
 
-use crate::bytes::{byte, term_offset};
+use crate::bytes::{byte, part, term_offset};
 use indication::entry::Usage;
 use indication::header::Kind;
 
@@ -20,4 +21,11 @@ pub(crate) fn usage(bytes: &[u8], i: u16) -> Option<Usage>
     ensures { let code = byte_at bytes.now (term_offset bytes.now i) in MatchOption result (4 < code) (λ usage. usage_code usage ≡ code) }
 {
     Usage::try_from(byte(bytes, term_offset(bytes, i))).ok()
+}
+
+// The duration that entry i names.
+pub(crate) fn duration(bytes: &[u8], i: u16) -> u16
+    ensures { result ≡ value (part bytes.now (term_offset bytes.now i + 1) 2) }
+{
+    u16::from_be_bytes(part(bytes, term_offset(bytes, i) + 1))
 }

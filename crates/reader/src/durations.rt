@@ -1,7 +1,7 @@
 ghost use Rattle.indication.specs.Rules.{AllowedAt, DisallowedAt, First, IsLast, Tells};
 
-use crate::bytes::{byte, entry_count, part, term_offset};
-use crate::codes::usage;
+use crate::bytes::{byte, entry_count, term_offset};
+use crate::codes::{duration, usage};
 use indication::entry::Usage;
 
 // Whether entry i is the last of its tariff.
@@ -16,7 +16,7 @@ fn is_last(bytes: &[u8], i: u16) -> bool
 fn allowed_at(bytes: &[u8], i: u16) -> bool
     ensures { Tells result (AllowedAt bytes.now i) }
 {
-    let duration = u16::from_be_bytes(part(bytes, term_offset(bytes, i) + 1));
+    let duration = duration(bytes, i);
     match usage(bytes, i) {
         Some(Usage::Periodic) if duration == 0 => is_last(bytes, i),
         Some(Usage::Periodic | Usage::OneTime) => 0 < duration && duration <= 36000,

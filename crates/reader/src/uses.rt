@@ -23,6 +23,7 @@ fn goes_on(bytes: &[u8], first: u8, k: u8) -> bool
 }
 
 // The first use byte at which the tariff of `count` entries from `first` on leaves the order.
+// Two numbers and no struct for such a tariff, since only this function and `values::entries` take the pair.
 fn misused(bytes: &[u8], first: u8, count: u8) -> Option<usize>
     ensures { First (MisusedAt bytes.now first count) result }
 {

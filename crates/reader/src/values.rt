@@ -3,13 +3,14 @@ ghost use Rattle.indication.specs.Format.{charge_at, content_of, decoded, encode
 ghost use Rattle.indication.specs.Rules.{Accepted};
 ghost use Rattle.std.specs.List.{range_with_len};
 
-use crate::bytes::{byte, part, term_offset};
-use crate::codes::{kind, usage};
+use crate::bytes::{byte, part};
+use crate::codes::{duration, kind, usage};
 use indication::entries::Entries;
 use indication::entry::{Charge, Entry, Term, Usage};
 use indication::header::{Change, Header, Kind, Mark, TariffControl};
 use indication::value::Indication;
 
+// Here and in `term_at` a code of no case, which an accepted indication has not, is read as the last case.
 #[tactic(auto, using(crate::proofs::Decoded::decodings))]
 pub(crate) fn header_of(bytes: &[u8]) -> Header
     ensures { result ≡ header_of bytes.now }
@@ -44,10 +45,9 @@ pub(crate) fn charge_at(bytes: &[u8], i: u16) -> Charge
 pub(crate) fn term_at(bytes: &[u8], i: u16) -> Term
     ensures { result ≡ term_at bytes.now i }
 {
-    let at = term_offset(bytes, i);
     Term {
         usage: usage(bytes, i).unwrap_or(Usage::AddOn),
-        duration: u16::from_be_bytes(part(bytes, at + 1)),
+        duration: duration(bytes, i),
     }
 }
 
