@@ -1,55 +1,42 @@
 -- The subtariffs of a tariff's entries put into slots.
-use Rattle.std.proofs.Common.{◌≡◌, ℕ, zero, suc, ◌+◌, ◌<◌, ◌≤◌, min, true, false, ◌⊎◌, List, [], ◌∷◌, ◌++◌, map, length, get_or, take, set, is_some, Some, None, Option, sym, refl, ap, ◌∙◌, inl, inr, arith}
-use Rattle.std.proofs.lemmas.List.{append-nil, map_more, length_push, set_past}
-use Rattle.std.proofs.lemmas.Bool.{true≢false, false≢true}
+use Rattle.std.proofs.Common.{◌≡◌, ℕ, zero, suc, ◌+◌, ◌<◌, ◌≤◌, min, List, [], ◌∷◌, ◌++◌, map, length, get_or, take, set, Some, None, Option, sym, refl, ap, ◌∙◌, length-take, arith}
+use Rattle.std.proofs.lemmas.List.{take_more, get_or-take}
+use Rattle.std.proofs.lemmas.List.FromFn.{get_or-enumerate_from, length-enumerate_from}
+use Rattle.std.specs.List.{cons_option, enumerate_from, filter_map}
 use Rattle.tariffs.specs.declared.tariff.Subtariff.{Subtariff}
 use Rattle.tariffs.specs.Making.{slotted}
 use Rattle.tariffs.specs.Sequences.{listed}
 
-listed_append : (xs ys : List (Option Subtariff)) → listed (xs ++ ys) ≡ listed xs ++ listed ys
-listed_append [] ys = refl
-listed_append (None ∷ xs) ys = listed_append xs ys
-listed_append (Some s ∷ xs) ys = ap (λ zs. s ∷ zs) (listed_append xs ys)
+-- those that a filter keeps are those that are listed
+one_kept : (o : Option Subtariff) (os : List (Option Subtariff)) (ss : List Subtariff) → ss ≡ listed os → cons_option o ss ≡ listed (o ∷ os)
+one_kept None os ss e = e
+one_kept (Some s) os ss e = ap (λ xs. s ∷ xs) e
 
--- one more goes into the slot after the last, and nowhere once all are taken
+pub kept_listed : {X : Type 0} (f : X → Option Subtariff) (xs : List X) → filter_map f xs ≡ listed (map f xs)
+kept_listed f [] = refl
+kept_listed f (x ∷ xs) = one_kept (f x) (map f xs) (filter_map f xs) (kept_listed f xs)
+
+-- one more goes into the slot after the last
 slotted_push : (n : ℕ) (ss : List Subtariff) (s : Subtariff) → slotted n (ss ++ s ∷ []) ≡ set (slotted n ss) (length ss) (Some s)
 slotted_push zero ss s = refl
 slotted_push (suc n) [] s = refl
 slotted_push (suc n) (x ∷ ss) s = ap (λ zs. Some x ∷ zs) (slotted_push n ss s)
 
-length_slotted : (n : ℕ) (ss : List Subtariff) → length (slotted n ss) ≡ n
-length_slotted zero ss = refl
-length_slotted (suc n) [] = ap suc (length_slotted n [])
-length_slotted (suc n) (x ∷ ss) = ap suc (length_slotted n ss)
+pub slotted_more :
+    (ss : List Subtariff) (k : ℕ) (p : ℕ × Subtariff) → (k < length (enumerate_from 0 (take 4 ss))) × (p ≡ get_or (enumerate_from 0 (take 4 ss)) k p)
+    → set (slotted 4 (take k ss)) p.0 (Some p.1) ≡ slotted 4 (take (k + 1) ss)
+slotted_more ss k p (some, is) =
+    let low : k < length (take 4 ss) = omega (arith, length-enumerate_from 0 (take 4 ss)) in
+    let pair = is ∙ get_or-enumerate_from 0 (take 4 ss) k p low in
+    let at : p.0 ≡ length (take k ss) = omega (arith, ap (λ (q : ℕ × Subtariff). q.0) pair, length-take k ss, length-take 4 ss) in
+    let it : p.1 ≡ get_or ss k p.1 = ap (λ (q : ℕ × Subtariff). q.1) pair ∙ get_or-take 4 ss k p.1 (omega (arith, length-take 4 ss)) in
+    ap (λ i. set (slotted 4 (take k ss)) i (Some p.1)) at ∙ sym (slotted_push 4 (take k ss) p.1)
+    ∙ ap (λ s. slotted 4 (take k ss ++ s ∷ [])) it ∙ ap (slotted 4) (sym (take_more ss k p.1 (omega (arith, length-take 4 ss))))
 
--- the first n of ss stand in n slots, and `count` says how many they are
-abbrev pub Filled : ℕ → List Subtariff → List (Option Subtariff) → ℕ → Type 0
-Filled n ss slots count = (slots ≡ slotted n ss) × (count ≡ min n (length ss))
-
-filled_none : (n : ℕ) (ss : List Subtariff) (slots : List (Option Subtariff)) (count : ℕ) → Filled n ss slots count → Filled n (ss ++ []) slots count
-filled_none n ss slots count h = rw append-nil h
-
-pub filled_kept :
-    (n : ℕ) (ss : List Subtariff) (slots : List (Option Subtariff)) (count : ℕ) (o : Option Subtariff)
-    → (is_some o ≡ false) ⊎ (n ≤ count) → Filled n ss slots count → Filled n (ss ++ listed (o ∷ [])) slots count
-filled_kept n ss slots count None _ h = filled_none n ss slots count h
-filled_kept n ss slots count (Some s) (inr full) (is, many) = (
-  is ∙ sym (slotted_push n ss s ∙ set_past _ _ _ (omega (arith, length_slotted n ss))),
-  omega (arith, length_push ss s),
-)
-filled_kept n ss slots count (Some s) (inl none) h = absurd (true≢false none)
-
-pub filled_more :
-    (n : ℕ) (ss : List Subtariff) (slots : List (Option Subtariff)) (count : ℕ) (o : Option Subtariff)
-    → is_some o ≡ true → count < n → Filled n ss slots count → Filled n (ss ++ listed (o ∷ [])) (set slots count o) (count + 1)
-filled_more n ss slots count None none room h = absurd (false≢true none)
-filled_more n ss slots count (Some s) _ room (is, many) =
-    let all : count ≡ length ss = omega arith in
-    (rw (is, all) (sym (slotted_push n ss s)), omega (arith, length_push ss s))
-
--- what the first entries say, with one entry more
-pub listed_more :
-    {X : Type 0} (f : X → Option Subtariff) (xs : List X) (i : ℕ) (d : X) (o : Option Subtariff) → i < length xs → o ≡ f (get_or xs i d)
-    → listed (map f (take (i + 1) xs)) ≡ listed (map f (take i xs)) ++ listed (o ∷ [])
-listed_more f xs i d o h e =
-    ap listed (map_more f xs i d h) ∙ listed_append (map f (take i xs)) _ ∙ ap (λ p. listed (map f (take i xs)) ++ listed (p ∷ [])) (sym e)
+-- and nothing is left to go in once all slots are taken
+pub slotted_all : (n k : ℕ) (ss : List Subtariff) → min n (length ss) ≤ k → slotted n (take k ss) ≡ slotted n ss
+slotted_all zero k ss all = refl
+slotted_all (suc n) zero [] all = refl
+slotted_all (suc n) (suc k) [] all = refl
+slotted_all (suc n) zero (s ∷ ss) all = absurd (omega arith)
+slotted_all (suc n) (suc k) (s ∷ ss) all = ap (λ zs. Some s ∷ zs) (slotted_all n k ss (omega arith))

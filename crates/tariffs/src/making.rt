@@ -50,13 +50,10 @@ fn first_subtariffs(entries: &[Entry]) -> [Option<Subtariff>; 4]
     ensures { result ≡ slotted 4 (listed (map subtariff_of entries.now)) }
 {
     let mut slots = [None; 4];
-    let mut count = 0;
-    for entry in entries {
-        let subtariff = subtariff_of(*entry);
-        if subtariff.is_some() && count < 4 {
-            slots[count] = subtariff;
-            count += 1;
-        }
+    let subtariffs = entries.iter().filter_map(|entry| subtariff_of(*entry));
+    // by index: of what is written through `slots.iter_mut().zip(..)` a proof knows nothing after the loop
+    for (i, subtariff) in subtariffs.take(4).enumerate() {
+        slots[i] = Some(subtariff);
     }
     slots
 }

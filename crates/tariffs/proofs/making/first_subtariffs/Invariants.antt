@@ -1,8 +1,7 @@
-use Rattle.std.proofs.Common.{map, take}
-use Rattle.tariffs.specs.Making.{subtariff_of}
-use Rattle.tariffs.specs.Sequences.{listed}
-use Rattle.tariffs.proofs.Filling.{Filled}
+use Rattle.std.proofs.Common.{◌≡◌, length, take}
+use Rattle.std.specs.List.{filter_map}
+use Rattle.tariffs.specs.Making.{slotted, subtariff_of}
 use Rattle.tariffs.proofs.making.first_subtariffs.Given as goal
 
-abbrev pub invariant-loop-entry : goal.invariant-loop-entry
-invariant-loop-entry l = Filled 4 (listed (map subtariff_of (take l.entry-index l.entries))) l.slots l.count
+abbrev pub invariant-loop-i : goal.invariant-loop-i
+invariant-loop-i l = l.slots ≡ slotted 4 (take (length l.yielded) (filter_map subtariff_of l.entries))
