@@ -9,7 +9,7 @@ use Rattle.indication.specs.declared.header.TariffControl.{TariffControl}
 use Rattle.indication.specs.declared.fault.Fault.{Fault}
 use Rattle.indication.specs.declared.fault.Fault.TheVariants.{NotAdmitted, TooManyIndications, AddOnBeforeTariff, NoCurrentTariff, TooManyNetworks}
 use Rattle.indication.specs.Format.{current_count, next_count, entry_count, charge_offset, entry_at, header_of, decoded}
-use Rattle.indication.specs.Rules.{Precedes, Foremost, Groundless}
+use Rattle.indication.specs.Rules.{Precedes, Groundless}
 use Rattle.units.specs.Meanings.{Meaning}
 use Rattle.units.specs.Admission.{UnitGrounds}
 use Rattle.readings.specs.Readings.{Reading, refused, says, Reads, reading}
@@ -17,11 +17,11 @@ use Rattle.readings.proofs.Right.{reading_right, reads_computed}
 use Rattle.record.specs.declared.call.Call.{Call}
 use Rattle.record.specs.Operators.{tariff_in, current_tariff}
 use Rattle.record.specs.Refusals.{IsStranger, CallGrounds}
-use Rattle.account.specs.Requests.{tariff, add_on}
+use Rattle.record.proofs.Grounds.{unit_refused}
 use Rattle.account.specs.Journals.{Past, accepted_in, is_known, networks}
 use Rattle.account.specs.Answers.{is_full, tariff_refusal, add_on_refusal, refusal}
 use Rattle.hearing.specs.Hearing.{Shows, bringing, RefusalsAreHeard, EntryAdmitted, ContentAdmitted, WhatIsSaidIsAdmitted}
-use Rattle.hearing.proofs.Grounded.{Hears, hears_unique, unit_refused, unit_taken, tariff_grounded_all, add_on_grounded_all}
+use Rattle.hearing.proofs.Grounded.{Hears, hears_unique, unit_taken, tariff_grounded_all, add_on_grounded_all}
 
 -- what the bytes say has no current tariff just where they count no entry of it
 absent :
@@ -122,26 +122,6 @@ refusals_heard m call p taken b shows = (
     as_heard m call p b shows taken None h,
   ),
 )
-
--- the same, of each kind of indication
-module _ (m : Meaning) (call : Call) (p : Past) (b : List ℕ) (shows : Shows call p) where
-  pub tariff_refused :
-      (f : Fault) → Foremost (CallGrounds m call Tariff b) f → refusal p (tariff (reading m Tariff b)) ≡ Some f
-  tariff_refused = (refusals_heard m call p Tariff b shows).0
-
-  pub tariff_taken :
-      Groundless (CallGrounds m call Tariff b)
-      → (reading m Tariff b ≡ says (decoded b)) × (refusal p (tariff (reading m Tariff b)) ≡ None)
-  tariff_taken = (refusals_heard m call p Tariff b shows).1
-
-  pub add_on_refused :
-      (f : Fault) → Foremost (CallGrounds m call AddOn b) f → refusal p (add_on (reading m AddOn b)) ≡ Some f
-  add_on_refused = (refusals_heard m call p AddOn b shows).0
-
-  pub add_on_taken :
-      Groundless (CallGrounds m call AddOn b)
-      → (reading m AddOn b ≡ says (decoded b)) × (refusal p (add_on (reading m AddOn b)) ≡ None)
-  add_on_taken = (refusals_heard m call p AddOn b shows).1
 
 -- what holds of each of n numbers from a on
 all_counting : (P : ℕ → Type 0) (a n : ℕ) → ((i : ℕ) → i < a + n → P i) → AllByRecursion P (range_with_len a n)

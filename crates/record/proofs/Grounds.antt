@@ -26,7 +26,7 @@ module _ (m : Meaning) (call : Call) (taken : Kind) (b : List ℕ) where
   NoSeat = seat_of (header_of b).network call.operators ≡ None
 
   -- what holds of every refusal with a ground, from what holds of the unit's and of the call's
-  grounded_all :
+  pub grounded_all :
       (P : Fault → Type 0) → ((f : Fault) → UnitGrounds m taken b f → P f)
       → (512 ≤ call.accepted → P TooManyIndications)
       → (taken ≡ AddOn → IsStranger call b → P AddOnBeforeTariff)
@@ -47,7 +47,7 @@ module _ (m : Meaning) (call : Call) (taken : Kind) (b : List ℕ) where
   grounded_all P unit many early absent fifth (PastLimit left) w = elim w [ ]
 
   -- the unit's grounds are among them, with the smaller numbers
-  unit_ground : (f : Fault) → UnitGrounds m taken b f → CallGrounds m call taken b f × (number_of f < 11)
+  pub unit_ground : (f : Fault) → UnitGrounds m taken b f → CallGrounds m call taken b f × (number_of f < 11)
   unit_ground (WrongLength at) w = (w, omega arith)
   unit_ground (BrokenLayout at) w = (w, omega arith)
   unit_ground EmptyTariff w = (w, omega arith)

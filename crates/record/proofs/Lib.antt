@@ -1,5 +1,5 @@
 mod Dues
 mod Everyone
 mod Seated
-mod Grounds
+pub mod Grounds
 mod Receipts
