@@ -61,6 +61,7 @@ fn entry_at(bytes: &[u8], i: u16) -> Entry
 }
 
 // The entries of the tariff of `count` entries from `first` on; an accepted one has no more than six.
+// A `for` that pushes, since a push may refuse: what comes behind a sixth entry is let go.
 fn entries(bytes: &[u8], first: u8, count: u8) -> Entries
     ensures { listed result ≡ take 6 (map (entry_at bytes.now) (range_with_len first count)) }
 {
