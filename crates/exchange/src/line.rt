@@ -13,7 +13,7 @@ use units::unit::Bounded;
 // The most bytes that a line's digits write.
 const MOST_BYTES: usize = LIMIT / 2;
 
-// The request that a command makes.
+// The request that a command makes. No `From`, since both types are other crates'.
 fn request_of<const ROOM: usize>(command: &Command<ROOM>) -> Request<'_>
     ensures { asked result ≡ asked_by (said_of command.now) }
 {

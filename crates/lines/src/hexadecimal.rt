@@ -76,6 +76,7 @@ pub fn decode(text: &[u8], out: &mut [u8]) -> Result<usize, HexFault>
     if out.len() < pairs.len() {
         return Err(HexFault::NoRoom);
     }
+    // memory is fixed: the room is the caller's, and the count tells how much of it is used
     for (place, [high, low]) in pairs.iter().enumerate() {
         out[place] = byte(*high, *low);
     }

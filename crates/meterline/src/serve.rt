@@ -14,7 +14,8 @@ pub(crate) fn serve<U: Bounded + Drop>(
     mut input: Input,
     mut meter: Meter<U>,
 ) -> io::Result<()> {
-    // nothing says that an input ends, so its lines are counted
+    // nothing says that an input ends, so its lines are counted: an iterator of lines would owe a proof of how much of the
+    // input each takes
     for _ in 0..u64::MAX {
         let Some(line) = input.next_line()? else {
             break;

@@ -36,7 +36,8 @@ fn open(rt: &HostRuntime, line: Option<&[u8]>) -> io::Result<Session> {
     })
 }
 
-// The meter after a line; none once the call is closed.
+// The meter after a line; none once the call is closed. What `serve` of meterline does over a whole input: here a run's
+// lines end at the next name, so a line is answered at a time.
 fn answer<U: Bounded + Drop>(
     rt: &HostRuntime,
     meter: Meter<U>,
