@@ -1,5 +1,5 @@
 -- The refusal that comes first, with the call's grounds beside those of reader and unit.
-use Rattle.std.proofs.Common.{◌≡◌, ℕ, ◌≤◌, List, Some, None, Option, refl, ap, arith}
+use Rattle.std.proofs.Common.{◌≡◌, ℕ, ◌≤◌, List, Some, None, Option, sym, refl, ap}
 use Rattle.indication.specs.declared.header.Kind.{Kind}
 use Rattle.indication.specs.declared.header.Kind.TheVariants.{Tariff, AddOn}
 use Rattle.indication.specs.declared.fault.Fault.{Fault}
@@ -12,7 +12,7 @@ use Rattle.readings.proofs.Right.{both_precede}
 use Rattle.record.specs.declared.call.Call.{Call}
 use Rattle.record.specs.Calls.{seat_of}
 use Rattle.record.specs.Refusals.{IsStranger, CallGrounds}
-use Rattle.record.proofs.Grounds.{grounded_all, unit_ground}
+use Rattle.record.proofs.Grounds.{grounded_all, two_kinds, unit_ground}
 
 -- the refusal that the grounds ask for, if any
 abbrev pub Hears : (Fault → Type 0) → Option Fault → Type 0
@@ -41,7 +41,7 @@ module _ (m : Meaning) (call : Call) where
         → (f : Fault) → CallGrounds m call Tariff b f → P f
     tariff_grounded_all P ok many current fifth =
         grounded_all m call Tariff b P (λ f w. absurd (ok f w)) many
-        (λ k w. let z : ◌≡◌ {A = ℕ} 0 1 = cc in absurd (omega arith))
+        (λ k w. absurd (two_kinds k))
         (λ k. current)
         (λ k. fifth)
 
@@ -54,5 +54,5 @@ module _ (m : Meaning) (call : Call) where
     add_on_grounded_all P ok many add_on =
         grounded_all m call AddOn b P (λ f w. absurd (ok f w)) many
         (λ k. add_on)
-        (λ k w none. let z : ◌≡◌ {A = ℕ} 0 1 = cc in absurd (omega arith))
-        (λ k w. let z : ◌≡◌ {A = ℕ} 0 1 = cc in absurd (omega arith))
+        (λ k w none. absurd (two_kinds (sym k)))
+        (λ k w. absurd (two_kinds (sym k)))

@@ -1,6 +1,7 @@
 -- The refusal that comes first, with the call's grounds beside those of reader and unit.
-use Rattle.std.proofs.Common.{◌≡◌, ℕ, ◌<◌, ◌≤◌, not, ◌&&◌, eqb, ◌⊎◌, List, Some, None, Option, Result, sym, refl, ap, inl, inr, ⊎_elim, arith, MatchResult}
+use Rattle.std.proofs.Common.{◌≡◌, ℕ, ◌<◌, ◌≤◌, not, ◌&&◌, eqb, ◌⊎◌, List, Some, None, Option, Result, sym, refl, ap, ◌∙◌, inl, inr, ⊎_elim, arith, MatchResult}
 use Rattle.std.specs.Option.{ok_or}
+use Rattle.std.proofs.lemmas.Option.{none-some}
 use Rattle.std.proofs.lemmas.Bool.{and_from, and_parts, both_ways, cond_both, eq-eqb, eqb-true, leb-true, leb-false, not-true, not_from_false}
 use Rattle.indication.specs.declared.header.Kind.{Kind}
 use Rattle.indication.specs.declared.header.Kind.TheVariants.{Tariff, AddOn}
@@ -18,7 +19,7 @@ use Rattle.record.specs.Refusals.{CallGrounds, IsStranger}
 use Rattle.record.specs.Seats.{is_full, seat_for, seat_with_room}
 use Rattle.record.proofs.Seated.{no_seat}
 
-two_kinds : Tariff ≡ AddOn → ⊥
+pub two_kinds : Tariff ≡ AddOn → ⊥
 two_kinds e = omega (arith, ap kind_code e)
 
 module _ (m : Meaning) (call : Call) (taken : Kind) (b : List ℕ) where
@@ -103,7 +104,7 @@ module _ (m : Meaning) (call : Call) (taken : Kind) (b : List ℕ) (ok : Groundl
   }
   by_seat early absent fifth (Some i) e = (
     grounded_all m call taken b (λ _. ⊥) ok (λ full. omega arith) early absent
-        (λ _ none. let z : ◌≡◌ {A = ℕ} 0 1 = cc in omega arith),
+        (λ _ none. none-some i (sym (e ∙ none))),
     room,
     e,
   )

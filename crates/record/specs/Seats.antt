@@ -31,7 +31,7 @@ index_found r = result_map_both index_of (λ f. f) r
 abbrev pub is_full : Call → Bool
 is_full call = nat_le 512 call.accepted
 
--- the seat that an indication of a kind with so many current entries finds, or why it finds none
+-- the seat that an indication of a kind with so many current entries finds where one more is accepted, or why it finds none
 abbrev pub seat_with_room : Call → Kind → ℕ → ℕ → Result ℕ Fault
 seat_with_room call Tariff network count =
     cond (count == 0 && not (is_seated network call.operators)) (Err NoCurrentTariff)
@@ -39,6 +39,7 @@ seat_with_room call Tariff network count =
 seat_with_room call AddOn network count =
     cond (is_seated network call.operators) (ok_or (seat_of network call.operators) TooManyNetworks) (Err AddOnBeforeTariff)
 
+-- the seat that it finds
 abbrev pub seat_for : Call → Kind → ℕ → ℕ → Result ℕ Fault
 seat_for call kind network count =
     cond (is_full call) (Err TooManyIndications) (seat_with_room call kind network count)

@@ -1,6 +1,7 @@
 ghost use Rattle.record.specs.Calls.{entering, everyone, opened, released, started};
 ghost use Rattle.record.specs.Refusals.{Passes};
 ghost use Rattle.record.specs.declared.call.Phase.TheVariants.{Closed};
+ghost use Rattle.std.specs.Iterator.{ActsAs};
 ghost use Rattle.std.specs.Prelude.{◌≡◌};
 
 use crate::call::{Call, DAY, Phase};
@@ -69,7 +70,7 @@ impl Call {
     // The call enters a phase, and every operator changes.
     fn enter<F: Fn(Operator) -> Operator>(&mut self, phase: Phase, change: F)
         requires { F.IsAlwaysCallable change }
-        ensures { (changed : Operator → Operator) → ((op new : Operator) → F.post change op new → new ≡ changed op) → self.new ≡ entering phase changed self.old }
+        ensures { (changed : Operator → Operator) → ActsAs F.FnMut change changed → self.new ≡ entering phase changed self.old }
     {
         self.operators = everyone(self.operators, change);
         self.phase = phase;
@@ -82,7 +83,7 @@ fn everyone<F: Fn(Operator) -> Operator>(
     change: F,
 ) -> [Option<Operator>; 4]
     requires { F.IsAlwaysCallable change }
-    ensures { (changed : Operator → Operator) → ((op new : Operator) → F.post change op new → new ≡ changed op) → result ≡ everyone changed seats }
+    ensures { (changed : Operator → Operator) → ActsAs F.FnMut change changed → result ≡ everyone changed seats }
 {
     seats.map(|seat| seat.map(|operator| change(operator)))
 }

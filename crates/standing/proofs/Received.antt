@@ -2,6 +2,7 @@
 use Rattle.std.proofs.Common.{◌≡◌, ℕ, ◌+◌, ◌^◌, ◌<◌, Bool, true, false, cond, not, ◌&&◌, eqb, List, [], ◌∷◌, ◌++◌, map, sym, refl, ap, ◌∙◌}
 use Rattle.std.specs.Option as options
 use Rattle.std.proofs.lemmas.Bool.{cond_both, eq-eqb, true≢false}
+use Rattle.std.proofs.Math.Bool.{and-true}
 use Rattle.indication.specs.Format.{Content}
 use Rattle.units.specs.Meanings.{Meaning}
 use Rattle.record.specs.declared.operator.Operator.{Operator}
@@ -18,10 +19,6 @@ use Rattle.standing.proofs.Pasts.{Kept}
 use Rattle.standing.proofs.Receipts.{receipt_set, seconds_kept}
 use Rattle.standing.proofs.Seats.{call_with, seats_known, seats_new}
 use Rattle.standing.proofs.Strangers.{stranger}
-
-and_true : (b : Bool) → (b && true) ≡ b
-and_true true = refl
-and_true false = refl
 
 module _ (m : Meaning) (opening : ℕ) (p : Past) (k : Kept p) (c : Content) where
   -- an add-on
@@ -75,7 +72,7 @@ module _ (m : Meaning) (opening : ℕ) (p : Past) (k : Kept p) (c : Content) whe
         then_begins m opening n p.clock (record { at = p.clock; content = c } ∷ rs) b (is_charging phase && true) (at_once m opening n j) fit
         ∙ ap (λ x. cond ((is_charging phase && true) && not (options.is_some b)) (begun m p.clock (op (at_once m opening n j + x))) (op (at_once m opening n j + x)))
         (seconds_kept m opening p.clock c rs b)
-        ∙ ap (λ t. cond (t && not (options.is_some b)) (begun m p.clock (op owed)) (op owed)) (and_true (is_charging phase))
+        ∙ ap (λ t. cond (t && not (options.is_some b)) (begun m p.clock (op owed)) (op owed)) (and-true (is_charging phase))
         ∙ ap (begun_in phase m p.clock) (sym (receipt_set n b owed opening p.clock c rs _ (began_by n p.clock j k.dated)))
 
     received_own :

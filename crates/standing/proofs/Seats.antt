@@ -3,6 +3,7 @@ use Rattle.std.proofs.Common.{◌≡◌, ℕ, zero, suc, ◌≤◌, Bool, true, 
 use Rattle.std.specs.Option.{option_map}
 use Rattle.std.specs.List.{AllByRecursion}
 use Rattle.std.proofs.lemmas.Bool.{eqb-true, or_parts, true≢false}
+use Rattle.std.proofs.lemmas.Option.{none-some}
 use Rattle.record.specs.declared.call.Call.{Call}
 use Rattle.record.specs.declared.call.Phase.{Phase}
 use Rattle.record.specs.declared.operator.Operator.{Operator}
@@ -11,9 +12,6 @@ use Rattle.record.specs.Calls.{seat_of, is_seated, seat_changed, everyone}
 use Rattle.account.specs.Journals.{is_among}
 use Rattle.account.specs.Records.{seated}
 use Rattle.standing.proofs.Networks.{Distinct}
-
-some≢none : {X : Type 0} {x : X} → Some x ≡ None → ⊥
-some≢none e = let z : ◌≡◌ {A = ℕ} 0 1 = cc in omega arith
 
 -- the record of a call, by its seats
 abbrev pub call_with : ℕ → ℕ → Phase → ℕ → List (Option Operator) → Call
@@ -46,20 +44,20 @@ module _ (g : ℕ → Operator) (x : ℕ) (own : (n : ℕ) → eqb (g n).network
 
   none_after : (o : Option ℕ) → option_map suc o ≡ None → o ≡ None
   none_after None e = refl
-  none_after (Some k) e = absurd (some≢none e)
+  none_after (Some k) e = absurd (none-some _ (sym e))
 
   pub full_from :
       (k : ℕ) (ns : List ℕ) → length ns ≤ k → seat_of x (seated k (map g ns)) ≡ None
       → (is_among x ns ≡ false) × (k ≤ length ns)
   full_from zero [] few e = (refl, omega arith)
   full_from zero (n ∷ ns) few e = absurd (omega arith)
-  full_from (suc k) [] few e = absurd (some≢none e)
+  full_from (suc k) [] few e = absurd (none-some _ (sym e))
   full_from (suc k) (n ∷ ns) few e = by (eqb n x) (full_from k ns (omega arith)) (rw (own n) at e)
     where
       by : (b : Bool) → (seat_of x (seated k (map g ns)) ≡ None → (is_among x ns ≡ false) × (k ≤ length ns))
           → cond b (Some 0) (option_map suc (seat_of x (seated k (map g ns)))) ≡ None
           → ((b || is_among x ns) ≡ false) × (suc k ≤ suc (length ns))
-      by true rest e = absurd (some≢none e)
+      by true rest e = absurd (none-some _ (sym e))
       by false rest e = let both = rest (none_after _ e) in (both.0, omega (arith, both.1))
 
   -- one operator changes, or a newcomer comes

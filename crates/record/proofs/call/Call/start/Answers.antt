@@ -9,4 +9,4 @@ pub returns-then-eq : goal.returns-then-eq
 returns-then-eq g c =
     let call = c.args.self.now in
     let set_up : call.phase ≡ SetUp = same_true the_type (search rules) _ _ (sym c.if-eq.ensures) in
-    rw set_up (c.enter.ensures (begun_in Charging (g.U.Unit.meaning c.args.unit.now) call.clock) (λ op new k. search rules))
+    rw set_up (c.enter.ensures (begun_in Charging (g.U.Unit.meaning c.args.unit.now) call.clock) (λ op new f k. search rules))
