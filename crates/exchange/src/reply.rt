@@ -30,7 +30,7 @@ impl fmt::Display for Reply {
     }
 }
 
-// The letter of a command.
+// The letter of a command. No `From`, since both types are other crates'.
 fn letter<const ROOM: usize>(command: &Command<ROOM>) -> char
     ensures { result ≡ letter_in (said_of command.now) }
 {

@@ -11,6 +11,7 @@ pub fn parse(text: &[u8]) -> Option<u32>
     if text.is_empty() {
         return None;
     }
+    // a `for` with `?`: by `try_fold`, that the value is the text's number stayed open
     let mut value = 0u32;
     for byte in text {
         let digit = char::from(*byte).to_digit(10)?;

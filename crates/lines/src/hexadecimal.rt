@@ -76,7 +76,8 @@ pub fn decode(text: &[u8], out: &mut [u8]) -> Result<usize, HexFault>
     if out.len() < pairs.len() {
         return Err(HexFault::NoRoom);
     }
-    // memory is fixed: the room is the caller's, and the count tells how much of it is used
+    // Memory is fixed: the room is the caller's, and the count tells how much of it is used. By index, since of what is
+    // written through `out.iter_mut().zip(..)` a proof knows nothing after the loop.
     for (place, [high, low]) in pairs.iter().enumerate() {
         out[place] = byte(*high, *low);
     }

@@ -46,6 +46,8 @@ fn unasked<U: Bounded>(call: SetUp<U>) -> Meter<U>
     Meter::SetUp(call)
 }
 
+// A state and a request stay two parameters here and below: they meet in this call alone.
+
 /// Performs a request. One that the state does not allow is answered so, and changes nothing.
 pub fn perform<U: Bounded + Drop>(meter: Meter<U>, request: Request) -> (Meter<U>, Answer)
     ensures { Performs U.Unit.meaning meter (asked request.entry) result.0 result.1 }

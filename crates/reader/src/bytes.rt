@@ -3,6 +3,9 @@ ghost use Rattle.indication.specs.Format.{byte as byte_at, entry_count, part, te
 
 use std::array;
 
+// What is read of the bytes is a function of them and of the place, and no method of the reader: the checks come before
+// there is one.
+
 // The byte at an offset; 0 past the end, where an accepted indication has nothing.
 pub(crate) fn byte(bytes: &[u8], at: usize) -> u8
     ensures { result ≡ byte_at bytes.now at }

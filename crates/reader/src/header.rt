@@ -53,7 +53,7 @@ fn wrong_count(count: u8, add_on: bool, wanted: u8) -> bool
     count > 6 || (add_on && count != wanted)
 }
 
-// A flag is 0 or 1, and 0 where it has nothing to say.
+// A flag is 0 or 1, and 0 where it has nothing to say; a number here, since three fields of two enums go by this rule.
 fn wrong_flag(flag: u8, idle: bool) -> bool
     ensures { Tells result (WrongFlag (T idle) flag) }
 {

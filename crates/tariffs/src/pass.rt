@@ -5,6 +5,7 @@ ghost use Rattle.tariffs.specs.Stretches.{taken_over, times_taken};
 use crate::tariff::{Charging, Subtariff, Tariff};
 use units::unit::Bounded;
 
+// From where and how many seconds stay two numbers, as callers give them: any two will do, so a type would say no more.
 impl Subtariff {
     // How many of the `seconds` seconds from offset `from` on are the subtariff's own.
     fn share(self, from: u32, seconds: u32) -> u32
