@@ -5,7 +5,7 @@ use indication::fault::Fault;
 use record::statement::StatementLine;
 
 /// What a request is answered.
-#[derive(Clone, Copy)]
+#[derive(Clone, Copy, PartialEq, Eq, Debug)]
 pub enum Answer {
     /// the phase of the call does not allow the request
     NotAllowed,

@@ -210,6 +210,7 @@ static UNTAKEN_CASES: [Case; 4] = [
 const ROOM: usize = 4615;
 
 fn changed(text: &[u8], changes: &[(usize, u8)]) -> Result<[u8; ROOM], Fail> {
+    // room that is lent to the decoder
     let mut bytes = [0u8; ROOM];
     decode(text, &mut bytes)?;
     for (offset, byte) in changes {
@@ -221,10 +222,9 @@ fn changed(text: &[u8], changes: &[(usize, u8)]) -> Result<[u8; ROOM], Fail> {
 }
 
 fn answer(bytes: &[u8], taken: Kind) -> Answer {
-    match Reader::read(bytes, taken) {
-        Ok(_) => Ok(()),
-        Err(fault) => Err((fault.number(), fault.offset())),
-    }
+    Reader::read(bytes, taken)
+        .map(|_| ())
+        .map_err(|fault| (fault.number(), fault.offset()))
 }
 
 fn run_case(rt: &impl Abort, base: Base, case: &Case) -> Result<(), Fail> {

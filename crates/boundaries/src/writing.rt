@@ -16,7 +16,7 @@ const ROOM: usize = 140;
 // What stands in a buffer before it is written to.
 const FILL: u8 = 170;
 
-// How many bytes were written, or the number and the offset of the refusal.
+// How many bytes were written, or the number and the offset of the refusal, as the table of refusals has them.
 type Answer = Result<usize, (u8, usize)>;
 
 // Writes into the first `room` bytes of the buffer.
@@ -44,6 +44,7 @@ fn writes(
     answer: Answer,
     bytes: &[u8],
 ) {
+    // room that is lent to the writer
     let mut buffer = [FILL; ROOM];
     assert_eq!(rt;
         written(indication, &mut buffer, room),
@@ -192,6 +193,7 @@ fn entries(terms: &[(Usage, u16)]) -> Entries {
 
 #[test]
 fn refuses(rt: HostRuntime) -> Result<(), Fail> {
+    // the number is the name of the case
     for (i, value) in REFUSED.iter().enumerate() {
         let Value(header, current, next, refusal) = value;
         let indication = Indication {

@@ -5,13 +5,10 @@ ghost use Rattle.std.specs.Prelude.{◌≡◌};
 
 use crate::reply::{Reply, echo};
 use commands::command::{Command, parse_command};
-use lines::line::LIMIT;
+use lines::line::MOST_BYTES;
 use meter::meter::{Meter, perform};
 use meter::request::Request;
 use units::unit::Bounded;
-
-// The most bytes that a line's digits write.
-const MOST_BYTES: usize = LIMIT / 2;
 
 // The request that a command makes. No `From`, since both types are other crates'.
 fn request_of<const ROOM: usize>(command: &Command<ROOM>) -> Request<'_>

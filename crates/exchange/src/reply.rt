@@ -8,7 +8,8 @@ use indication::fault::Fault;
 use std::fmt;
 
 /// What is written back for a line.
-#[derive(Clone, Copy)]
+// An enum and no Option: that a line is no command is itself a reply, which is written.
+#[derive(Clone, Copy, PartialEq, Eq, Debug)]
 pub enum Reply {
     /// the line is no command, or none that the call allows
     Unknown,
@@ -43,7 +44,7 @@ fn letter<const ROOM: usize>(command: &Command<ROOM>) -> char
     }
 }
 
-// The reply to a command, by its answer.
+// The reply to a command, by its answer; no conversion, as it takes both.
 pub(crate) fn echo<const ROOM: usize>(command: &Command<ROOM>, answer: Answer) -> Reply
     ensures { result ≡ echoed (letter_in (said_of command.now)) answer }
 {

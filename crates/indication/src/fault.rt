@@ -39,6 +39,7 @@ pub enum Fault {
     PastLimit(u32),
 }
 
+// Three readings of a refusal, each by its name: a `From` would not say which.
 impl Fault {
     // a number, since an exchange is told numbers, and the one with the smallest goes first
     pub fn number(self) -> u8
@@ -78,6 +79,7 @@ impl Fault {
         }
     }
 
+    // 0 is where these refusals show, and no sign for none
     pub fn offset(self) -> usize
         ensures { result ≡ offset_of self }
     {

@@ -12,6 +12,7 @@ pub enum Kind {
     AddOn = 2,
 }
 
+// For each enum of codes by hand: the gate refuses an impl that a macro of the repository writes.
 impl TryFrom<u8> for Kind {
     type Error = UnknownCode;
 
@@ -69,6 +70,7 @@ impl TryFrom<u8> for TariffControl {
 }
 
 /// The charge unit that an indication is written for.
+// Any four bytes: only a charge unit can tell whether a mark is its own.
 #[derive(Clone, Copy, PartialEq, Eq, Debug)]
 pub struct Mark {
     pub kind: u8,

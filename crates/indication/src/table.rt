@@ -24,10 +24,10 @@ impl Entries {
     pub fn push(&mut self, entry: Entry) -> Result<(), Entry>
         ensures { MatchResult result (λ _. (length (listed self.old) < 6) × (listed self.new ≡ listed self.old ++ entry ∷ [])) (λ back. (length (listed self.old) ≡ 6) × (listed self.new ≡ listed self.old) × (back ≡ entry)) }
     {
-        // by index: `get_mut` does not say what the array holds afterwards
         if self.count == self.slots.len() {
             return Err(entry);
         }
+        // by index: `get_mut` does not say what the array holds afterwards
         self.slots[self.count] = entry;
         self.count += 1;
         Ok(())

@@ -1,6 +1,6 @@
 //! The words for what an indication says, and for its refusal.
 
-ghost use Rattle.std.specs.Prelude.{◌≡◌, ◌++◌, codes, decimal, Some};
+ghost use Rattle.std.specs.Prelude.{◌≡◌, Some};
 ghost use Rattle.indication.specs.Words.{kind_word, change_word, control_word, usage_word, layer_word, charge_text, term_text, mark_text, broken_rule, reason_text, fault_text};
 
 use crate::entry::{Charge, Term, Usage};

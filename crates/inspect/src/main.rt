@@ -8,7 +8,7 @@ mod amount;
 mod report;
 mod time;
 
-use amount::Denomination;
+use commands::opening::UnitName;
 use lines::line::LineBuffer;
 use report::Report;
 use std::io::{BufReader, Read};
@@ -19,16 +19,8 @@ use units::pulses::Pulses;
 use units::unit::Bounded;
 
 // Prints what each line says, in memory for one line.
-fn inspect<U: Bounded + Drop>(
-    rt: &HostRuntime,
-    unit: U,
-    denomination: Denomination,
-) -> io::Result<()> {
-    let report = Report {
-        rt,
-        unit,
-        denomination,
-    };
+fn inspect<U: Bounded + Drop>(rt: &HostRuntime, name: UnitName, unit: U) -> io::Result<()> {
+    let report = Report { rt, unit, name };
     let mut line = LineBuffer::new();
     let mut number = 1u64;
     for byte in BufReader::new(rt.alloc(), rt.reader())?.bytes() {
@@ -48,20 +40,22 @@ fn inspect<U: Bounded + Drop>(
     }
 }
 
-// What the amounts of the unit that the first argument names are called.
-fn chosen_denomination(rt: &HostRuntime) -> io::Result<Option<Denomination>> {
+// The unit whose letter is the first argument.
+fn chosen_unit(rt: &HostRuntime) -> io::Result<Option<UnitName>> {
     let argument = env::args(rt)?.nth(1);
-    Ok(match argument.as_deref() {
-        Some("C") => Some(Denomination::Euro),
-        Some("P") => Some(Denomination::Pulse),
+    Ok(match argument.as_deref().map(|text| text.as_bytes()) {
+        Some([letter]) => UnitName::try_from(*letter).ok(),
         _ => None,
     })
 }
 
 fn main(rt: HostRuntime) -> io::Result<()> {
-    match chosen_denomination(&rt)? {
-        Some(Denomination::Euro) => inspect(&rt, PriceLimit { unit: Currency }, Denomination::Euro),
-        Some(Denomination::Pulse) => inspect(&rt, PriceLimit { unit: Pulses }, Denomination::Pulse),
-        None => println!(&rt; "inspect C reads for currency, inspect P for pulses"),
+    let Some(name) = chosen_unit(&rt)? else {
+        return println!(&rt; "inspect C reads for currency, inspect P for pulses");
+    };
+    // each program has this match of its own, as its arms differ in a type
+    match name {
+        UnitName::Currency => inspect(&rt, name, PriceLimit { unit: Currency }),
+        UnitName::Pulses => inspect(&rt, name, PriceLimit { unit: Pulses }),
     }
 }

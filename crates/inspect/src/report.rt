@@ -1,26 +1,24 @@
 //! What is printed for each line of the input.
 
-use crate::amount::{Amount, Denomination};
+use crate::amount::Amount;
 use crate::time::TimeOfDay;
+use commands::opening::UnitName;
 use indication::entry::Entry;
 use indication::header::{Header, Kind, TariffControl};
 use indication::value::Indication;
 use lines::hexadecimal::decode;
-use lines::line::LIMIT;
+use lines::line::{LIMIT, MOST_BYTES};
 use std::io;
 use tariffs::tariff::Tariff;
 use units::admission::read_for;
 use units::unit::Bounded;
 
-// The most bytes that a line's digits write.
-const MOST_BYTES: usize = LIMIT / 2;
-
-/// Prints what indications say, read for a unit whose amounts have the denomination.
+/// Prints what indications say, read for a unit with that name.
 #[derive(Drop)]
 pub struct Report<'a, R, U> {
     pub rt: &'a R,
     pub unit: U,
-    pub denomination: Denomination,
+    pub name: UnitName,
 }
 
 impl<R: Print, U: Bounded> Report<'_, R, U> {
@@ -30,6 +28,7 @@ impl<R: Print, U: Bounded> Report<'_, R, U> {
         let Some(text) = line else {
             return println!(self.rt; "more than {LIMIT} characters");
         };
+        // room that is lent to the decoder
         let mut bytes = [0u8; MOST_BYTES];
         match decode(text, &mut bytes) {
             Ok(count) => self.print_bytes(&bytes[0..count]),
@@ -118,6 +117,7 @@ impl<R: Print, U: Bounded> Report<'_, R, U> {
 
     // What writing an indication again gives.
     fn print_rewritten(&self, indication: &Indication, bytes: &[u8]) -> io::Result<()> {
+        // room that is lent to the writer
         let mut again = [0u8; MOST_BYTES];
         match writer::write(indication, &mut again) {
             Ok(count) if &again[0..count] == bytes => {
@@ -131,7 +131,7 @@ impl<R: Print, U: Bounded> Report<'_, R, U> {
     fn amount(&self, value: u64) -> Amount {
         Amount {
             value,
-            denomination: self.denomination,
+            unit: self.name,
         }
     }
 }

@@ -9,6 +9,9 @@ use arrayvec::ArrayVec;
 /// The most bytes that a line may have.
 pub const LIMIT: usize = 400;
 
+/// The most bytes that the digits of a line write.
+pub const MOST_BYTES: usize = LIMIT / 2;
+
 /// One line, as far as it was read.
 #[derive(Drop)]
 pub struct LineBuffer {

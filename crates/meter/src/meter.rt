@@ -46,8 +46,6 @@ fn unasked<U: Bounded>(call: SetUp<U>) -> Meter<U>
     Meter::SetUp(call)
 }
 
-// A state and a request stay two parameters here and below: they meet in this call alone.
-
 /// Performs a request. One that the state does not allow is answered so, and changes nothing.
 pub fn perform<U: Bounded + Drop>(meter: Meter<U>, request: Request) -> (Meter<U>, Answer)
     ensures { Performs U.Unit.meaning meter (asked request.entry) result.0 result.1 }
@@ -59,6 +57,8 @@ pub fn perform<U: Bounded + Drop>(meter: Meter<U>, request: Request) -> (Meter<U
     }
 }
 
+// A state has all that it allows in one function, though both open states answer three requests alike: what they share would
+// have to be told the state that the meter is left in. State and request meet in this call alone, so they are two parameters.
 fn perform_in_set_up<U: Bounded + Drop>(call: SetUp<U>, request: Request) -> (Meter<U>, Answer)
     ensures { Performs U.Unit.meaning (in_set_up call) (asked request.entry) result.0 result.1 }
 {

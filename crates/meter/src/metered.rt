@@ -47,6 +47,19 @@ pub struct Metered<S, U> {
     pub(crate) state: PhantomData<S>,
 }
 
+impl<S, U> Metered<S, U> {
+    // The same call, in a state that it has come to.
+    pub(crate) fn into_state<T>(self) -> Metered<T, U>
+        ensures { (result.unit ≡ self.unit) × (result.call ≡ self.call) }
+    {
+        Metered {
+            unit: self.unit,
+            call: self.call,
+            state: PhantomData,
+        }
+    }
+}
+
 // That the unit stays is said by each method that changes the call: it is a fact of two moments, and an invariant knows one.
 impl<S: Open, U: Bounded> Metered<S, U> {
     /// Takes the bytes for a tariff indication.
@@ -66,15 +79,10 @@ impl<S: Open, U: Bounded> Metered<S, U> {
     }
 
     /// The call ends.
-    pub fn release(self) -> Closed<U>
+    pub fn release(mut self) -> Closed<U>
         ensures { (result.unit ≡ self.unit) × (result.call ≡ released (U.Unit.meaning self.unit) self.call) }
     {
-        let Metered { unit, mut call, .. } = self;
-        call.release(&unit);
-        Metered {
-            unit,
-            call,
-            state: PhantomData,
-        }
+        self.call.release(&self.unit);
+        self.into_state()
     }
 }

@@ -9,6 +9,7 @@ use std::alloc::{AllocError, Global};
 use units::unit::Bounded;
 
 /// Performs a list of requests on a meter that is opened for it; returns the answers, and the record at the end.
+// unit and second are what opens a call, here as in `Meter::open`
 pub fn run<U: Bounded + Drop>(
     heap: Global,
     unit: U,

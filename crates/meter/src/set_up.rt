@@ -25,16 +25,10 @@ impl<U: Bounded> SetUp<U> {
     }
 
     /// Charging begins.
-    // as `release` but for the step: with the step as a closure, its clause would stand here and at both callers
-    pub fn start(self) -> Charging<U>
+    pub fn start(mut self) -> Charging<U>
         ensures { (result.unit ≡ self.unit) × (result.call ≡ started (U.Unit.meaning self.unit) self.call) }
     {
-        let Metered { unit, mut call, .. } = self;
-        call.start(&unit);
-        Metered {
-            unit,
-            call,
-            state: PhantomData,
-        }
+        self.call.start(&self.unit);
+        self.into_state()
     }
 }

@@ -1,9 +1,10 @@
 //! Lines of standard input, one at a time, in bounded memory.
 
 use lines::line::LineBuffer;
-use std::io::{self, BufRead, BufReader, Bytes, Read, StdinLock};
+use std::io::{self, BufReader, Bytes, Read, StdinLock};
 
 /// The bytes of standard input that are still to be taken.
+// Each program goes over its bytes by itself: in a library the loop would owe a contract on what a reader has left.
 #[derive(Drop)]
 pub(crate) struct Input {
     bytes: Bytes<BufReader<StdinLock<'static>>>,

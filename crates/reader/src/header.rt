@@ -1,49 +1,52 @@
-ghost use Rattle.std.specs.Prelude.{T};
+ghost use Rattle.std.specs.Prelude.{◌≤◌, T, length};
 ghost use Rattle.indication.specs.Rules.{BrokenHeader, First, Tells, WrongCount, WrongFlag, WrongQuarter};
 
-use crate::bytes::part;
 use crate::codes::kind;
 use indication::header::Kind;
 
 // The first byte of the header that breaks the layout.
 pub(crate) fn broken_header(bytes: &[u8], taken: Kind) -> Option<usize>
+    requires { 24 ≤ length bytes.now }
     ensures { First (BrokenHeader taken bytes.now) result }
 {
     let [
         current,
         next,
-        _,
+        _kind,
         change,
         current_control,
         next_control,
         quarter,
-        ..,
-        zero,
-    ]: [u8; 12] = part(bytes, 0);
+        _unit,
+        _rest @ ..,
+    ] = bytes
+    else {
+        return None;
+    };
     let kind = kind(bytes);
     let add_on = kind == Some(Kind::AddOn);
-    if wrong_count(current, add_on, 1) {
+    if wrong_count(*current, add_on, 1) {
         return Some(0);
     }
-    if wrong_count(next, add_on, 0) {
+    if wrong_count(*next, add_on, 0) {
         return Some(1);
     }
     if kind != Some(taken) {
         return Some(2);
     }
-    if wrong_flag(change, add_on) {
+    if wrong_flag(*change, add_on) {
         return Some(3);
     }
-    if wrong_flag(current_control, add_on || current == 0) {
+    if wrong_flag(*current_control, add_on || *current == 0) {
         return Some(4);
     }
-    if wrong_flag(next_control, next == 0) {
+    if wrong_flag(*next_control, *next == 0) {
         return Some(5);
     }
-    if wrong_quarter(quarter, next) {
+    if wrong_quarter(*quarter, *next) {
         return Some(6);
     }
-    if zero != 0 { Some(11) } else { None }
+    if bytes[11] != 0 { Some(11) } else { None }
 }
 
 // A tariff has at most six entries, and an add-on as many as it wants of each.

@@ -1,3 +1,4 @@
+ghost use Rattle.std.specs.Prelude.{◌≤◌, length, IfNone};
 ghost use Rattle.indication.specs.Rules.{First, IsEmpty, Tells, WrongLengthAt};
 
 use crate::bytes::entry_count;
@@ -6,7 +7,8 @@ use indication::header::Kind;
 
 // Where a length that is not the one that the counts ask for shows.
 pub(crate) fn wrong_length(bytes: &[u8]) -> Option<usize>
-    ensures { First (WrongLengthAt bytes.now) result }
+    ensures first { First (WrongLengthAt bytes.now) result }
+    ensures none { IfNone result (24 ≤ length bytes.now) }
 {
     if bytes.len() < 24 {
         return Some(bytes.len());

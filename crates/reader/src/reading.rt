@@ -80,7 +80,8 @@ impl<'a> Reader<'a> {
         Some(term_at(self.bytes, i))
     }
 
-    // The index of entry i, where there is such an entry.
+    // The index of entry i, where there is such an entry. Its charge and its term stand apart in the bytes, and each has a
+    // definition of its own.
     fn entry(&self, i: usize) -> Option<u16>
         ensures { result ≡ if_entry (lent self.now) i i }
     {

@@ -14,7 +14,7 @@ fn goes_on(bytes: &[u8], first: u8, k: u8) -> bool
     let usage_at = |k: u8| usage(bytes, u16::from(first) + u16::from(k));
     match usage_at(k) {
         Some(Usage::Attempt) => k == 0,
-        Some(Usage::SetUp) => k == 0 || matches!(usage_at(k - 1), Some(Usage::Attempt)),
+        Some(Usage::SetUp) => k == 0 || usage_at(k - 1) == Some(Usage::Attempt),
         Some(Usage::Periodic | Usage::OneTime) => {
             k < 4 || !matches!(usage_at(k - 4), Some(Usage::Periodic | Usage::OneTime))
         }

@@ -12,7 +12,7 @@ pub enum Phase {
 }
 
 /// The record of one call.
-#[derive(Clone, Copy)]
+#[derive(Clone, Copy, PartialEq, Eq, Debug)]
 pub struct Call {
     /// the second of the day at which it was opened
     pub opening: u32,

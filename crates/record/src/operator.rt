@@ -5,12 +5,13 @@ use indication::header::TariffControl;
 use tariffs::tariff::Tariff;
 
 /// What the call keeps of one operator. Moments are clock values: seconds since the call was opened.
-// A moment stays a number: the definitions and the charges compute with it, and a type of its own would only be unwrapped.
-#[derive(Clone, Copy)]
+// A moment is a number: the definitions and the charges compute with it, and a type of its own would only be unwrapped.
+#[derive(Clone, Copy, PartialEq, Eq, Debug)]
 pub struct Operator {
     pub network: u64,
     /// the tariff in force
     pub tariff: Tariff,
+    // two Options and no pair, though they are empty together: the rules speak of each
     /// the tariff that takes over at the next switch-over
     pub next: Option<Tariff>,
     /// when the switch-over falls due; wide enough for a day after any clock value

@@ -11,7 +11,8 @@ impl Stretch {
     fn split_at(self, due: u64) -> Option<(Stretch, Stretch)>
         ensures { MatchOption result (reached self.from self.seconds due ≡ false) (λ parts. (reached self.from self.seconds due ≡ true) × Splits self due parts.0 parts.1) }
     {
-        if due <= self.from as u64 || due > self.from as u64 + self.seconds as u64 {
+        let from = u64::from(self.from);
+        if due <= from || due > from + u64::from(self.seconds) {
             return None;
         }
         let due = due as u32;
@@ -32,13 +33,12 @@ impl Operator {
     fn price_over<U: Bounded>(self, unit: &U, stretch: Stretch) -> u64
         ensures { result ≡ min (over_stretch (U.Unit.meaning unit.now) self.tariff stretch.from stretch.seconds self.origin) (2 ^ 64 - 1) }
     {
-        let Some(origin) = self.origin else {
-            return 0;
-        };
-        let from = stretch.from.saturating_sub(origin);
-        self.tariff
-            .price_of_stretch(unit, from, stretch.seconds)
-            .unwrap_or(u64::MAX)
+        self.origin.map_or(0, |origin| {
+            let from = stretch.from.saturating_sub(origin);
+            self.tariff
+                .price_of_stretch(unit, from, stretch.seconds)
+                .unwrap_or(u64::MAX)
+        })
     }
 
     // A stretch passes without a switch-over.

@@ -49,7 +49,7 @@ impl Call {
         Ok(())
     }
 
-    // The seat of an indication's network, and the operator that is to be in it.
+    // The seat of an indication's network, and the operator that is to be in it. Unit and kind are handed on, and kept nowhere.
     fn placed<U: Bounded>(
         &self,
         unit: &U,

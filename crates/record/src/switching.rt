@@ -71,7 +71,7 @@ impl Operator {
     fn switched_at(self, clock: u32) -> Operator
         ensures { result ≡ switched_at clock self }
     {
-        if self.due == Some(clock as u64) {
+        if self.due == Some(u64::from(clock)) {
             self.switched_over()
         } else {
             self

@@ -5,7 +5,7 @@ ghost use Rattle.tariffs.specs.Stretches.{taken_over, times_taken};
 use crate::tariff::{Charging, Subtariff, Tariff};
 use units::unit::Bounded;
 
-// From where and how many seconds stay two numbers, as callers give them: any two will do, so a type would say no more.
+// From where and how many seconds are two numbers, as callers give them: any two will do, so a type would say no more.
 impl Subtariff {
     // How many of the `seconds` seconds from offset `from` on are the subtariff's own.
     fn share(self, from: u32, seconds: u32) -> u32
@@ -24,6 +24,7 @@ impl Subtariff {
         match self.charging {
             Charging::Periodic => u64::from(unit.ticks(self.charge, from, seconds)),
             Charging::OneTime if from == 0 => u64::from(unit.lump(self.charge, self.duration)),
+            // 0 times
             Charging::OneTime => 0,
         }
     }
@@ -45,6 +46,7 @@ impl Tariff {
     pub(crate) fn price_of_pass<U: Bounded>(&self, unit: &U, from: u32, seconds: u32) -> Option<u64>
         ensures { Priced result (taken_over (U.Unit.meaning unit.now) (sequence self.now) from seconds) }
     {
+        // a `for`, and no fold: three numbers go from one subtariff to the next
         let mut from = from;
         let mut left = seconds;
         let mut total: u64 = 0;

@@ -13,6 +13,7 @@ impl Tariff {
     fn round_length(&self) -> Option<u32>
         ensures { result ≡ whole_length (sequence self.now) }
     {
+        // a `for`, and no fold: that four durations fit is known of the turns of a loop
         let mut length = 0;
         for subtariff in self.subtariffs.iter().copied().flatten() {
             if subtariff.duration == 0 {

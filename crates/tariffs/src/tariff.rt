@@ -23,5 +23,6 @@ pub struct Tariff {
     pub attempt: Option<Charge>,
     pub set_up: Option<Charge>,
     pub control: TariffControl,
+    // an array of slots and no list with a length: the memory is fixed, and empty slots are passed over
     pub subtariffs: [Option<Subtariff>; 4],
 }

@@ -7,7 +7,7 @@ mod session;
 
 use lines::line::LineBuffer;
 use session::Session;
-use std::io::{self, BufRead, BufReader, Read};
+use std::io::{self, BufReader, Read};
 
 fn print_bytes(rt: &HostRuntime, line: &[u8]) -> io::Result<()> {
     for byte in line {

@@ -22,7 +22,7 @@ pub enum Session {
     Over,
 }
 
-// A line comes with the runtime to each step, and is not kept with it.
+// A line comes with the runtime to each step, and neither is kept.
 fn open(rt: &HostRuntime, line: Option<&[u8]>) -> io::Result<Session> {
     let Some(Opening { unit, second }) = line.and_then(parse_opening) else {
         println!(rt; "{}", Reply::Unknown)?;

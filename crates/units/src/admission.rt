@@ -17,9 +17,8 @@ pub fn read_for<'a, U: Bounded>(bytes: &'a [u8], taken: Kind, unit: &U) -> Resul
     admit(reader, unit)
 }
 
-// Reader and unit stay two parameters: a struct of both would have two lifetimes, and say no more.
-
-// Passes a well-formed indication on where its mark is the unit's and the unit admits its charges.
+// Passes a well-formed indication on where its mark is the unit's and the unit admits its charges. Reader and unit are two
+// parameters, here and below: a struct of both would have two lifetimes, and say no more.
 fn admit<'a, U: Bounded>(reader: Reader<'a>, unit: &U) -> Result<Reader<'a>, Fault>
     ensures { (taken : Kind) → Accepted taken (lent reader.entry) → MatchResult result (λ i. Groundless (UnitGrounds (U.Unit.meaning unit.now) taken (lent reader.entry)) × (lent i ≡ lent reader.entry)) (λ f. Foremost (UnitGrounds (U.Unit.meaning unit.now) taken (lent reader.entry)) f) }
 {

@@ -48,6 +48,7 @@ impl Unit for Currency {
         well_scaled(charge)
     }
 
+    // 0 is an amount here, and below a number of times: what a charge that fits no use comes to
     fn price(&self, charge: Charge) -> u64 {
         if well_scaled(charge) {
             u64::from(charge.size) * 10u64.pow((charge.step + 7) as u32)

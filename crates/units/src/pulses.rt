@@ -69,6 +69,7 @@ impl Unit for Pulses {
         }
     }
 
+    // 0 is an amount here, and below a number of times: what a charge that fits no use comes to
     fn price(&self, charge: Charge) -> u64 {
         if in_steps(charge, 0, 7200) {
             u64::from(charge.size)

@@ -5,7 +5,7 @@ use indication::entry::{Charge, Usage};
 use indication::header::Mark;
 
 /// A charge unit: what the charges of indications with its mark are worth. It answers by its meaning, and asking changes
-/// nothing.
+/// nothing. Each question takes what it is about: a charge with its use, or with some seconds.
 pub trait Unit {
     ghost meaning: { Self → Meaning };
 

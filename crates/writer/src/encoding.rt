@@ -19,6 +19,7 @@ pub(crate) fn encoding_of(indication: &Indication) -> Encoding
     let current = indication.current.as_slice();
     let next = indication.next.as_slice();
     let mut encoding = header_encoding(indication.header, current.len() as u8, next.len() as u8);
+    // two loops: a bound `Fn` that names the length of a part is not covered by the borrow checker
     for entry in current.iter().chain(next) {
         put(&mut encoding, &charge_bytes(*entry));
     }
