@@ -227,6 +227,7 @@ fn answer(bytes: &[u8], taken: Kind) -> Answer {
         .map_err(|fault| (fault.number(), fault.offset()))
 }
 
+// A handle to assert by, and what is asserted on.
 fn run_case(rt: &impl Abort, base: Base, case: &Case) -> Result<(), Fail> {
     let Base { name, text, taken } = base;
     let Case(changes, length, expected) = case;

@@ -27,6 +27,7 @@ pub struct Opening {
 }
 
 /// A letter of no unit.
+// apart from `UnknownCode` of `indication`: neither crate knows the other, and each has its text
 #[derive(Clone, Copy, PartialEq, Eq, Debug)]
 pub struct UnknownUnit(pub u8);
 

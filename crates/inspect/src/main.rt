@@ -22,6 +22,7 @@ use units::unit::Bounded;
 fn inspect<U: Bounded + Drop>(rt: &HostRuntime, name: UnitName, unit: U) -> io::Result<()> {
     let report = Report { rt, unit, name };
     let mut line = LineBuffer::new();
+    // counted, since lines come out of bytes, and there are none to enumerate
     let mut number = 1u64;
     for byte in BufReader::new(rt.alloc(), rt.reader())?.bytes() {
         match byte? {

@@ -23,6 +23,7 @@ fn main(rt: HostRuntime) -> io::Result<()> {
     let Some(Opening { unit, second }) = line.line().and_then(parse_opening) else {
         return println!(&rt; "{}", Reply::Unknown);
     };
+    // each program has this match of its own, as its arms differ in a type
     match unit {
         UnitName::Currency => {
             let unit = PriceLimit { unit: Currency };

@@ -46,6 +46,7 @@ pub(crate) fn broken_header(bytes: &[u8], taken: Kind) -> Option<usize>
     if wrong_quarter(*quarter, *next) {
         return Some(6);
     }
+    // by index: of what is behind the first eight bytes, one is asked for
     if bytes[11] != 0 { Some(11) } else { None }
 }
 

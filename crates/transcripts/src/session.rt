@@ -28,6 +28,7 @@ fn open(rt: &HostRuntime, line: Option<&[u8]>) -> io::Result<Session> {
         println!(rt; "{}", Reply::Unknown)?;
         return Ok(Session::Over);
     };
+    // each program has this match of its own, as its arms differ in a type
     Ok(match unit {
         UnitName::Currency => Session::InCurrency(Meter::open(
             PriceLimit { unit: Currency },

@@ -8,6 +8,7 @@ use indication::value::Indication;
 use reader::Reader;
 
 /// Writes the indication's bytes to the front of the buffer, and answers how many they are.
+// into a slice that is lent: memory is fixed, and the caller's
 pub fn write(indication: &Indication, out: &mut [u8]) -> Result<usize, Fault>
     ensures { MatchResult result (λ n. Written (content_of indication.now) out.old out.new n) (λ f. Unwritable (content_of indication.now) (length out.old) f × (out.new ≡ out.old)) }
 {
