@@ -7,7 +7,7 @@ use reader::Reader;
 use std::process::Abort;
 use std::test::Fail;
 
-// The number and the offset of a refusal; nothing is said of what is accepted.
+// The number and the offset of a refusal, as an exchange is told them; nothing is said of what is accepted.
 type Answer = Result<(), (u8, usize)>;
 
 // The bytes that are changed, each by its offset and its new value; the length that is read, with zeros past the

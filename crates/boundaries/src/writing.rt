@@ -59,6 +59,7 @@ fn writes(
 
 fn round_trip(rt: &impl Abort, base: Base) -> Result<(), Fail> {
     let Base { name, text, taken } = base;
+    // room that is lent to the decoder
     let mut buffer = [0u8; ROOM];
     let length = decode(text, &mut buffer)?;
     let bytes = &buffer[0..length];

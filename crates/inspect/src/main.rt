@@ -24,6 +24,7 @@ fn inspect<U: Bounded + Drop>(rt: &HostRuntime, name: UnitName, unit: U) -> io::
     let mut line = LineBuffer::new();
     // counted, since lines come out of bytes, and there are none to enumerate
     let mut number = 1u64;
+    // each program has this loop of its own: in a library it would owe a contract on what a reader has left
     for byte in BufReader::new(rt.alloc(), rt.reader())?.bytes() {
         match byte? {
             b'\n' => {

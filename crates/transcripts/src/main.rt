@@ -19,6 +19,7 @@ fn print_bytes(rt: &HostRuntime, line: &[u8]) -> io::Result<()> {
 fn main(rt: HostRuntime) -> io::Result<()> {
     let mut line = LineBuffer::new();
     let mut session = Session::Over;
+    // each program has this loop of its own: in a library it would owe a contract on what a reader has left
     for byte in BufReader::new(rt.alloc(), rt.reader())?.bytes() {
         match byte? {
             b'\n' => {
