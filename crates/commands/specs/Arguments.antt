@@ -1,5 +1,5 @@
 -- What stands on a line behind its letter; 32 is a space.
-use Rattle.std.specs.Prelude.{◌≡◌, ℕ, ◌%◌, ◌≤◌, List, [], ◌∷◌, length}
+use Rattle.std.specs.Prelude.{◌≡◌, ℕ, ◌%◌, ◌≤◌, List, [], ◌∷◌, length, drop}
 use Rattle.lines.specs.Decimal.{Writes, number}
 use Rattle.lines.specs.Hexadecimal.{Digits, decoded}
 
@@ -16,3 +16,7 @@ Indicates (space ∷ digits) bytes = (space ≡ 32) × Digits digits × (length 
 -- There is no indication that fits into so much room.
 abbrev pub NoneFits : List ℕ → ℕ → Type 0
 NoneFits rest room = (bytes : List ℕ) → Indicates rest bytes → length bytes ≤ room → ⊥
+
+-- A buffer has n bytes or more, and those behind the first n stay as they were.
+abbrev pub FrontOnly : ℕ → List ℕ → List ℕ → Type 0
+FrontOnly n before after = (n ≤ length before) × (drop n after ≡ drop n before)

@@ -1,5 +1,5 @@
 -- What the lines of commands say.
-use Rattle.std.specs.Prelude.{◌≡◌, ℕ, ◌≤◌, List, [], ◌∷◌, length}
+use Rattle.std.specs.Prelude.{◌≡◌, ℕ, ◌≤◌, List, [], ◌∷◌, length, take}
 use Rattle.commands.specs.Arguments.{Numbers, Indicates}
 use Rattle.commands.specs.declared.command.Command.{Command}
 use Rattle.commands.specs.declared.command.Command.TheVariants.{Tariff, AddOn, Advance, Start, Release}
@@ -33,10 +33,18 @@ bytes_of release = []
 abbrev pub NothingFits : List ℕ → ℕ → Type 0
 NothingFits line room = (said : Said) → Says line said → length (bytes_of said) ≤ room → ⊥
 
--- What a command says.
-abbrev pub said_of : {room : ℕ} → Command room → Said
-said_of (Tariff bytes) = tariff bytes.items
-said_of (AddOn bytes) = add_on bytes.items
-said_of (Advance seconds) = advance seconds
-said_of Start = start
-said_of Release = release
+-- How many bytes the indication of a command has; 0 where there is no indication.
+abbrev pub size_of : Command → ℕ
+size_of (Tariff n) = n
+size_of (AddOn n) = n
+size_of (Advance seconds) = 0
+size_of Start = 0
+size_of Release = 0
+
+-- What a command says, with its indication at the front of the buffer.
+abbrev pub said_of : Command → List ℕ → Said
+said_of (Tariff n) buffer = tariff (take n buffer)
+said_of (AddOn n) buffer = add_on (take n buffer)
+said_of (Advance seconds) buffer = advance seconds
+said_of Start buffer = start
+said_of Release buffer = release

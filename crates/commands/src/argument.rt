@@ -1,9 +1,8 @@
 //! What stands on a line behind its letter.
 
-ghost use Rattle.std.specs.Prelude.{ℕ, MatchOption};
-ghost use Rattle.commands.specs.Arguments.{Indicates, NoneFits, Numbers};
+ghost use Rattle.std.specs.Prelude.{◌≡◌, ℕ, length, take, MatchOption};
+ghost use Rattle.commands.specs.Arguments.{FrontOnly, Indicates, NoneFits, Numbers};
 
-use arrayvec::ArrayVec;
 use lines::{decimal, hexadecimal};
 
 // The number behind one space.
@@ -13,17 +12,15 @@ pub(crate) fn number(rest: &[u8]) -> Option<u32>
     rest.strip_prefix(b" ").and_then(decimal::parse)
 }
 
-// The bytes of an indication, of which there is room for so many.
-pub(crate) fn indication<const ROOM: usize>(rest: &[u8]) -> Option<ArrayVec<u8, ROOM>>
-    ensures { MatchOption result (NoneFits rest.now ROOM) (λ bytes. Indicates rest.now bytes.items) }
+// Puts the bytes of an indication at the front of `bytes`, and returns how many they are.
+pub(crate) fn indication(rest: &[u8], bytes: &mut [u8]) -> Option<usize>
+    ensures { MatchOption result
+        (NoneFits rest.now (length bytes.old) × (bytes.new ≡ bytes.old))
+        (λ n. Indicates rest.now (take n bytes.new) × FrontOnly n bytes.old bytes.new) }
 {
-    let digits = match rest.split_first() {
-        None => return Some(ArrayVec::new()),
-        Some((b' ', digits)) => digits,
-        _ => return None,
-    };
-    let mut bytes = ArrayVec::from([0; ROOM]);
-    let count = hexadecimal::decode(digits, bytes.as_mut_slice()).ok()?;
-    bytes.truncate(count);
-    Some(bytes)
+    match rest.split_first() {
+        None => Some(0),
+        Some((b' ', digits)) => hexadecimal::decode(digits, bytes).ok(),
+        _ => None,
+    }
 }

@@ -1,18 +1,19 @@
 //! The commands to a meter.
 
-ghost use Rattle.commands.specs.Sayings.{NothingFits, Says, bytes_of, said_of};
-ghost use Rattle.std.specs.Prelude.{◌≤◌, length, IfSome, MatchOption};
+ghost use Rattle.commands.specs.Arguments.{FrontOnly};
+ghost use Rattle.commands.specs.Sayings.{NothingFits, Says, said_of, size_of};
+ghost use Rattle.std.specs.Prelude.{◌≡◌, length, MatchOption};
 
 use crate::argument;
-use arrayvec::ArrayVec;
 
-/// What a line asks of the meter, with an indication of at most `ROOM` bytes.
-#[derive(Clone, PartialEq, Eq, Debug, Drop)]
-pub enum Command<const ROOM: usize> {
-    /// take a tariff indication
-    Tariff(ArrayVec<u8, ROOM>),
-    /// take an add-on indication
-    AddOn(ArrayVec<u8, ROOM>),
+/// What a line asks of the meter. The bytes of an indication stand at the front of the buffer.
+// A count, and no bytes of its own: a command is copied as a plain value, and the buffer may be of any length.
+#[derive(Clone, Copy, PartialEq, Eq, Debug)]
+pub enum Command {
+    /// take a tariff indication of so many bytes
+    Tariff(usize),
+    /// take an add-on indication of so many bytes
+    AddOn(usize),
     /// let so many seconds pass
     Advance(u32),
     /// start charging
@@ -21,17 +22,20 @@ pub enum Command<const ROOM: usize> {
     Release,
 }
 
-/// The command that the line writes: `T` or `A`, one space, and an indication in hexadecimal (a letter alone has an
-/// indication of no bytes); `W`, one space, and seconds in decimal, below 2^32; `S` alone; or `R` alone. `None` of any
-/// other line, and of an indication longer than `ROOM` bytes.
-pub fn parse_command<const ROOM: usize>(line: &[u8]) -> Option<Command<ROOM>>
-    ensures said { MatchOption result (NothingFits line.now ROOM) (λ command. Says line.now (said_of command)) }
-    ensures fits { IfSome result (λ command. length (bytes_of (said_of command)) ≤ ROOM) }
+/// The command that the line writes: `T` or `A`, one space, and an indication in hexadecimal, which is put at
+/// the front of `bytes` (a letter alone has an indication of no bytes); `W`, one space, and seconds in decimal,
+/// below 2^32; `S` alone; or `R` alone. `None` of any other line, and of an indication longer than `bytes`, which
+/// then stay as they were.
+pub fn parse_command(line: &[u8], bytes: &mut [u8]) -> Option<Command>
+    ensures { MatchOption result
+        (NothingFits line.now (length bytes.old) × (bytes.new ≡ bytes.old))
+        (λ command. Says line.now (said_of command bytes.new)
+        × FrontOnly (size_of command) bytes.old bytes.new) }
 {
     let (letter, rest) = line.split_first()?;
     match letter {
-        b'T' => Some(Command::Tariff(argument::indication(rest)?)),
-        b'A' => Some(Command::AddOn(argument::indication(rest)?)),
+        b'T' => Some(Command::Tariff(argument::indication(rest, bytes)?)),
+        b'A' => Some(Command::AddOn(argument::indication(rest, bytes)?)),
         b'W' => Some(Command::Advance(argument::number(rest)?)),
         b'S' if rest.is_empty() => Some(Command::Start),
         b'R' if rest.is_empty() => Some(Command::Release),

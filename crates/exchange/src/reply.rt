@@ -1,5 +1,4 @@
-ghost use Rattle.commands.specs.Sayings.{said_of};
-ghost use Rattle.exchange.specs.Exchanges.{echoed, letter_in, written};
+ghost use Rattle.exchange.specs.Exchanges.{echoed, letter_of, written};
 ghost use Rattle.std.specs.Prelude.{Some, ◌≡◌};
 
 use account::answer::Answer;
@@ -32,8 +31,8 @@ impl fmt::Display for Reply {
 }
 
 // The letter of a command. No `From`, since both types are other crates'.
-fn letter<const ROOM: usize>(command: &Command<ROOM>) -> char
-    ensures { result ≡ letter_in (said_of command.now) }
+fn letter(command: Command) -> char
+    ensures { result ≡ letter_of command }
 {
     match command {
         Command::Tariff(_) => 'T',
@@ -45,8 +44,8 @@ fn letter<const ROOM: usize>(command: &Command<ROOM>) -> char
 }
 
 // The reply to a command, by its answer; no conversion, as it takes both.
-pub(crate) fn echo<const ROOM: usize>(command: &Command<ROOM>, answer: Answer) -> Reply
-    ensures { result ≡ echoed (letter_in (said_of command.now)) answer }
+pub(crate) fn echo(command: Command, answer: Answer) -> Reply
+    ensures { result ≡ echoed (letter_of command) answer }
 {
     match answer {
         Answer::Accepted => Reply::Echo(letter(command), Ok(())),
