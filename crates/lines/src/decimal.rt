@@ -15,7 +15,8 @@ pub fn parse(text: &[u8]) -> Option<u32>
     let mut value = 0u32;
     for byte in text {
         let digit = char::from(*byte).to_digit(10)?;
-        value = value.checked_mul(10)?.checked_add(digit)?;
+        // one bound for both: `checked_mul` and `checked_add` take nearly twice the time
+        value = u32::try_from(u64::from(value) * 10 + u64::from(digit)).ok()?;
     }
     Some(value)
 }

@@ -2,7 +2,7 @@
 
 ghost use Rattle.lines.specs.Line.{seen, grown};
 ghost use Rattle.std.specs.Option.{option_map};
-ghost use Rattle.std.specs.Prelude.{◌≡◌, [], Some};
+ghost use Rattle.std.specs.Prelude.{◌≡◌, ◌≤◌, [], Some, length, IfSome};
 
 use arrayvec::ArrayVec;
 
@@ -42,7 +42,8 @@ impl LineBuffer {
 
     /// The line's bytes, or `None` where it is overlong.
     pub fn line(&self) -> Option<&[u8]>
-        ensures { option_map (λ x. x.now) result ≡ seen self.now }
+        ensures line { option_map (λ x. x.now) result ≡ seen self.now }
+        ensures short { IfSome result (λ x. length x.now ≤ 400) }
     {
         self.bytes.as_ref().map(|bytes| bytes.as_slice())
     }
@@ -51,6 +52,10 @@ impl LineBuffer {
     pub fn clear(&mut self)
         ensures { seen self.new ≡ Some [] }
     {
-        *self = LineBuffer::new();
+        // the bytes that the line has, and not all that it may have
+        match &mut self.bytes {
+            Some(bytes) => bytes.clear(),
+            None => *self = LineBuffer::new(),
+        }
     }
 }

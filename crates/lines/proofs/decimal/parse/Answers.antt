@@ -2,9 +2,6 @@ use Rattle.lines.proofs.Number.{number_more, number_ge}
 use Rattle.lines.proofs.decimal.parse.Goals as goal
 use Rattle.std.proofs.Common.{rules}
 
-pub returns-in_err-checked_mul : goal.returns-in_err-checked_mul
-returns-in_err-checked_mul c = search (rules, number_ge)
-
 pub returns-in_err-value : goal.returns-in_err-value
 returns-in_err-value c = search (rules, number_ge)
 
