@@ -11,28 +11,39 @@ mod time;
 use commands::opening::UnitName;
 use lines::line::LineBuffer;
 use report::Report;
-use std::io::{BufReader, Read};
+use std::io::Read;
 use std::{env, io};
 use units::currency::Currency;
 use units::limit::PriceLimit;
 use units::pulses::Pulses;
 use units::unit::Bounded;
 
-// Prints what each line says, in memory for one line.
+const CHUNK: usize = 4096;
+
+// Prints what each line says, in memory for one line and one chunk, both in place: a `BufReader` has its buffer from the
+// heap, and nobody could be told that there is no memory for it.
 fn inspect<U: Bounded + Drop>(rt: &HostRuntime, name: UnitName, unit: U) -> io::Result<()> {
     let report = Report { rt, unit, name };
     let mut line = LineBuffer::new();
     // counted, since lines come out of bytes, and there are none to enumerate
     let mut number = 1u64;
-    // each program has this loop of its own: in a library it would owe a contract on what a reader has left
-    for byte in BufReader::new(rt.alloc(), rt.reader())?.bytes() {
-        match byte? {
-            b'\n' => {
-                report.print_line(number, line.line())?;
-                line.clear();
-                number = number.saturating_add(1);
+    let mut chunk = [0; CHUNK];
+    // each program has this loop of its own: in a library it would owe a contract on what a reader has left. Nothing says that
+    // an input ends, so the chunks are counted
+    for _ in 0..u64::MAX {
+        let count = rt.stdin().read(&mut chunk)?;
+        if count == 0 {
+            break;
+        }
+        for byte in &chunk[..count] {
+            match *byte {
+                b'\n' => {
+                    report.print_line(number, line.line())?;
+                    line.clear();
+                    number = number.saturating_add(1);
+                }
+                byte => line.push(byte),
             }
-            byte => line.push(byte),
         }
     }
     // a last line without a newline counts, unless it is empty

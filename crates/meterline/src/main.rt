@@ -16,8 +16,8 @@ use units::limit::PriceLimit;
 use units::pulses::Pulses;
 
 fn main(rt: HostRuntime) -> io::Result<()> {
-    let mut input = Input::new(&rt)?;
-    let Some(line) = input.next_line()? else {
+    let mut input = Input::new();
+    let Some(line) = input.next_line(&rt)? else {
         return Ok(());
     };
     let Some(Opening { unit, second }) = line.line().and_then(parse_opening) else {

@@ -17,7 +17,7 @@ pub(crate) fn serve<U: Bounded + Drop>(
     // nothing says that an input ends, so its lines are counted: an iterator of lines would owe a proof of how much of the
     // input each takes
     for _ in 0..u64::MAX {
-        let Some(line) = input.next_line()? else {
+        let Some(line) = input.next_line(rt)? else {
             break;
         };
         let Some(line) = line.line() else {

@@ -7,7 +7,9 @@ mod session;
 
 use lines::line::LineBuffer;
 use session::Session;
-use std::io::{self, BufReader, Read};
+use std::io::{self, Read};
+
+const CHUNK: usize = 4096;
 
 fn print_bytes(rt: &HostRuntime, line: &[u8]) -> io::Result<()> {
     for byte in line {
@@ -19,20 +21,29 @@ fn print_bytes(rt: &HostRuntime, line: &[u8]) -> io::Result<()> {
 fn main(rt: HostRuntime) -> io::Result<()> {
     let mut line = LineBuffer::new();
     let mut session = Session::Over;
-    // each program has this loop of its own: in a library it would owe a contract on what a reader has left
-    for byte in BufReader::new(rt.alloc(), rt.reader())?.bytes() {
-        match byte? {
-            b'\n' => {
-                session = match line.line() {
-                    Some(name @ [b'#', ..]) => {
-                        print_bytes(&rt, name)?;
-                        Session::Unopened
-                    }
-                    line => session.after(&rt, line)?,
-                };
-                line.clear();
+    // in place, and no `BufReader`, whose buffer comes from the heap: nobody could be told that there is no memory for it
+    let mut chunk = [0; CHUNK];
+    // each program has this loop of its own: in a library it would owe a contract on what a reader has left. Nothing says that
+    // an input ends, so the chunks are counted
+    for _ in 0..u64::MAX {
+        let count = rt.stdin().read(&mut chunk)?;
+        if count == 0 {
+            break;
+        }
+        for byte in &chunk[..count] {
+            match *byte {
+                b'\n' => {
+                    session = match line.line() {
+                        Some(name @ [b'#', ..]) => {
+                            print_bytes(&rt, name)?;
+                            Session::Unopened
+                        }
+                        line => session.after(&rt, line)?,
+                    };
+                    line.clear();
+                }
+                byte => line.push(byte),
             }
-            byte => line.push(byte),
         }
     }
     Ok(())
