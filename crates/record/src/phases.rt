@@ -2,6 +2,7 @@ ghost use Rattle.record.specs.Calls.{entering, everyone, opened, released, start
 ghost use Rattle.record.specs.Refusals.{Passes};
 ghost use Rattle.record.specs.declared.call.Phase.TheVariants.{Closed};
 ghost use Rattle.std.specs.Iterator.{ActsAs};
+ghost use Rattle.std.specs.Option.{option_map};
 ghost use Rattle.std.specs.Prelude.{◌≡◌};
 
 use crate::call::{Call, DAY, Phase};
@@ -62,7 +63,7 @@ impl Call {
             Phase::SetUp => self.enter(Phase::Closed, |operator| {
                 operator.owing(price_of(unit, operator.tariff.attempt))
             }),
-            Phase::Charging => self.phase = Phase::Closed,
+            Phase::Charging => self.close(),
             Phase::Closed => {}
         }
     }
@@ -75,6 +76,13 @@ impl Call {
         self.operators = everyone(self.operators, change);
         self.phase = phase;
     }
+
+    // The call is closed, and its operators are as they were.
+    fn close(&mut self)
+        ensures { self.new ≡ entering Closed (λ op. op) self.old }
+    {
+        self.phase = Phase::Closed;
+    }
 }
 
 // Every operator changes.
@@ -85,5 +93,23 @@ fn everyone<F: Fn(Operator) -> Operator>(
     requires { F.IsAlwaysCallable change }
     ensures { (changed : Operator → Operator) → ActsAs F.FnMut change changed → result ≡ everyone changed seats }
 {
-    seats.map(|seat| seat.map(|operator| change(operator)))
+    // seat by seat: `map` of the array moves all four through an iterator, and an advance takes up to twice the time
+    let [a, b, c, d] = seats;
+    [
+        seat_after(a, &change),
+        seat_after(b, &change),
+        seat_after(c, &change),
+        seat_after(d, &change),
+    ]
+}
+
+// The operator in a seat changes. A `match`: `map` moves the operator once more.
+fn seat_after<F: Fn(Operator) -> Operator>(seat: Option<Operator>, change: &F) -> Option<Operator>
+    requires { F.IsAlwaysCallable change.now }
+    ensures { (changed : Operator → Operator) → ActsAs F.FnMut change.now changed → result ≡ option_map changed seat }
+{
+    match seat {
+        Some(operator) => Some(change(operator)),
+        None => None,
+    }
 }

@@ -50,7 +50,7 @@ impl Operator {
     fn with_next(self, call: &Call, quarter: u8, next: Option<Tariff>) -> Operator
         ensures { result ≡ with_next call.now.opening quarter call.now.clock next self }
     {
-        let due = next.and(Some(call.due_at(quarter)));
+        let due = call.due_for(quarter, next);
         Operator { next, due, ..self }
     }
 
