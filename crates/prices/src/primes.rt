@@ -15,14 +15,36 @@ use units::unit::Unit;
 #[derive(Clone, Copy)]
 pub struct Primes;
 
-const PRIMES: [u32; 25] = [
-    2, 3, 5, 7, 11, 13, 17, 19, 23, 29, 31, 37, 41, 43, 47, 53, 59, 61, 67, 71, 73, 79, 83, 89, 97,
-];
-
 fn is_prime(offset: u32) -> bool
     ensures { result ≡ is_prime offset }
 {
-    PRIMES.contains(&offset)
+    matches!(
+        offset,
+        2 | 3
+            | 5
+            | 7
+            | 11
+            | 13
+            | 17
+            | 19
+            | 23
+            | 29
+            | 31
+            | 37
+            | 41
+            | 43
+            | 47
+            | 53
+            | 59
+            | 61
+            | 67
+            | 71
+            | 73
+            | 79
+            | 83
+            | 89
+            | 97
+    )
 }
 
 // How many of the `count` numbers from `from` on are primes below 100. None is past that, so the range is short.
