@@ -1,4 +1,5 @@
 ghost use Rattle.record.specs.Calls.{entering, everyone, opened, released, started};
+ghost use Rattle.record.specs.Operators.{owing, passed, price_of};
 ghost use Rattle.record.specs.Refusals.{Passes};
 ghost use Rattle.record.specs.declared.call.Phase.TheVariants.{Closed};
 ghost use Rattle.std.specs.Iterator.{ActsAs};
@@ -38,9 +39,16 @@ impl Call {
             from: self.clock,
             seconds,
         };
-        self.operators = everyone(self.operators, |operator| operator.passed(unit, stretch));
+        self.operators = self.operators_after(unit, stretch);
         self.clock += seconds;
         Ok(())
+    }
+
+    // The operators, after a stretch has passed for each.
+    fn operators_after<U: Bounded>(&self, unit: &U, stretch: Stretch) -> [Option<Operator>; 4]
+        ensures { result ≡ everyone (passed (U.Unit.meaning unit.now) stretch.from stretch.seconds) self.now.operators }
+    {
+        everyone(self.operators, |operator| operator.passed(unit, stretch))
     }
 
     /// Starts charging, where the call is in set-up: every operator begins.
@@ -60,9 +68,7 @@ impl Call {
         ensures { self.new ≡ released (U.Unit.meaning unit.now) self.old }
     {
         match self.phase {
-            Phase::SetUp => self.enter(Phase::Closed, |operator| {
-                operator.owing(price_of(unit, operator.tariff.attempt))
-            }),
+            Phase::SetUp => self.give_up(unit),
             Phase::Charging => self.close(),
             Phase::Closed => {}
         }
@@ -75,6 +81,15 @@ impl Call {
     {
         self.operators = everyone(self.operators, change);
         self.phase = phase;
+    }
+
+    // The call is closed before it charged: every operator is owed the attempt charge of its tariff in force.
+    fn give_up<U: Bounded>(&mut self, unit: &U)
+        ensures { self.new ≡ entering Closed (λ op. owing (price_of (U.Unit.meaning unit.now) op.tariff.attempt) op) self.old }
+    {
+        self.enter(Phase::Closed, |operator| {
+            operator.owing(price_of(unit, operator.tariff.attempt))
+        });
     }
 
     // The call is closed, and its operators are as they were.
