@@ -20,8 +20,8 @@ use units::unit::Bounded;
 
 const CHUNK: usize = 4096;
 
-// Prints what each line says, in memory for one line and one chunk, both in place: a `BufReader` has its buffer from the
-// heap, and nobody could be told that there is no memory for it.
+// Prints what each line says, in memory for one line and one chunk, both in place: the buffer of a `BufReader` comes from the
+// heap.
 fn inspect<U: Bounded + Drop>(rt: &HostRuntime, name: UnitName, unit: U) -> io::Result<()> {
     let report = Report { rt, unit, name };
     let mut line = LineBuffer::new();

@@ -8,7 +8,7 @@ const CHUNK: usize = 4096;
 
 /// The bytes of standard input that are still to be taken.
 // Each program goes over its bytes by itself: in a library the loop would owe a contract on what a reader has left. In place,
-// and no `BufReader`, whose buffer comes from the heap: nobody could be told that there is no memory for it.
+// and no `BufReader`: its buffer comes from the heap, and a call would end where there is none.
 #[derive(Drop)]
 pub(crate) struct Input {
     chunk: [u8; CHUNK],

@@ -27,11 +27,11 @@ fn main(rt: HostRuntime) -> io::Result<()> {
     match unit {
         UnitName::Currency => {
             let unit = PriceLimit { unit: Currency };
-            serve(&rt, input, Meter::open(unit, second))
+            serve(&rt, &mut input, Meter::open(unit, second))
         }
         UnitName::Pulses => {
             let unit = PriceLimit { unit: Pulses };
-            serve(&rt, input, Meter::open(unit, second))
+            serve(&rt, &mut input, Meter::open(unit, second))
         }
     }
 }

@@ -11,7 +11,7 @@ use units::unit::Bounded;
 /// Answers each line of the input, until the call is released or the input ends.
 pub(crate) fn serve<U: Bounded + Drop>(
     rt: &HostRuntime,
-    mut input: Input,
+    input: &mut Input,
     mut meter: Meter<U>,
 ) -> io::Result<()> {
     // nothing says that an input ends, so its lines are counted: an iterator of lines would owe a proof of how much of the

@@ -9,7 +9,7 @@ use lines::line::LineBuffer;
 use session::Session;
 use std::io::{self, Read};
 
-const CHUNK: usize = 4096;
+const CHUNK: usize = 256;
 
 fn print_bytes(rt: &HostRuntime, line: &[u8]) -> io::Result<()> {
     for byte in line {
@@ -21,7 +21,7 @@ fn print_bytes(rt: &HostRuntime, line: &[u8]) -> io::Result<()> {
 fn main(rt: HostRuntime) -> io::Result<()> {
     let mut line = LineBuffer::new();
     let mut session = Session::Over;
-    // in place, and no `BufReader`, whose buffer comes from the heap: nobody could be told that there is no memory for it
+    // in place: the buffer of a `BufReader` comes from the heap
     let mut chunk = [0; CHUNK];
     // each program has this loop of its own: in a library it would owe a contract on what a reader has left. Nothing says that
     // an input ends, so the chunks are counted
